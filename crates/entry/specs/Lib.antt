@@ -1,0 +1,2 @@
+-- What the C doors answer, in one word.
+pub mod Doors

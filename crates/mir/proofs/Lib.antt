@@ -1,0 +1,7 @@
+-- Laws that several functions' proofs, and the crates above, cite.
+pub mod Folds
+pub mod Masks
+pub mod Passing
+pub mod Records
+pub mod Renaming
+pub mod Shapes

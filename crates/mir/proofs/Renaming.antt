@@ -1,0 +1,74 @@
+-- The renaming of section 2: how many statics there can be, and that the registers keep their number.
+-- By induction on the records; a record makes at most two statics.
+use Prim.Native.Nat.{ℕ, zero, suc, _+_, _*_, _≤_, _<_}
+use mathlib.Core.Bool.{Bool, true, false, cond, _&&_}
+use mathlib.Core.List.{List, [], _∷_, _++_}
+use mathlib.Core.Path.{_≡_, refl, sym, ap, _∙_}
+use native.Mathlib.Omega.{arith}
+use lib.Dec.{ltb}
+use lib.ListN.{length, take, drop, length-take, length-set}
+use lib.Seq.{take-add, drop-drop}
+use borrow.Author.Tests.{ltb-true, lt-ltb}
+use Rattle.mir.specs.declared.rename.Current.{Current}
+use Rattle.mir.specs.declared.rename.Current.the-variants.{Static, Unset}
+use Rattle.mir.specs.Folds.{all}
+use Rattle.mir.specs.Questions.{genFits, gensFit}
+use Rattle.mir.specs.Records.{isGen, maxRegs, recordAt, wordAt}
+use Rattle.mir.specs.Renaming.{one, gens, produce, produced, renamed, fresh, staticsTo, regsTo}
+use Rattle.mir.specs.Shapes.{shapeFor, dests, sources, registers}
+use Rattle.mir.proofs.Folds.{all-append}
+use Rattle.mir.proofs.Shapes.{two-dests}
+
+pub one-le : (w : ℕ) → one w ≤ 1
+one-le w = go (isGen w)
+  where
+    go : (b : Bool) → cond b 1 0 ≤ 1
+    go true = omega arith
+    go false = omega arith
+
+gens-le : (ws : List ℕ) → gens ws ≤ length ws
+unfolding gens
+gens-le [] = omega arith
+gens-le (w ∷ ws) = omega (arith, one-le w, gens-le ws)
+
+pub gens-two : (rec : List ℕ) → gens (dests rec) ≤ 2
+unfolding dests
+gens-two rec =
+    let d = shapeFor rec .dsts in
+    omega (arith, gens-le (take d (drop (shapeFor rec .regs) rec)), length-take d (drop (shapeFor rec .regs) rec), two-dests (wordAt rec 0))
+
+pub statics-two : (list : List ℕ) (i : ℕ) → staticsTo list i ≤ i * 2
+unfolding staticsTo
+statics-two list zero = omega arith
+statics-two list (suc i) = omega (arith, statics-two list i, gens-two (recordAt list i))
+
+-- the register words are the destinations and then the sources
+pub registers-are : (rec : List ℕ) → registers rec ≡ dests rec ++ sources rec
+unfolding registers dests sources
+registers-are rec =
+    let s = shapeFor rec in
+    rw (take-add (s .dsts) (s .srcs) (drop (s .regs) rec), drop-drop (s .dsts) (s .regs) rec)
+
+pub and-both : (a b : Bool) → (a && b) ≡ true → (a ≡ true) × (b ≡ true)
+and-both true b h = (refl, h)
+and-both false b h = (h, cc)
+
+pub gens-fit-both : (n : ℕ) (rec : List ℕ) → gensFit n rec ≡ true → (all (genFits n) (dests rec) ≡ true) × (all (genFits n) (sources rec) ≡ true)
+unfolding gensFit
+gens-fit-both n rec h =
+    and-both _ _ (sym (all-append (genFits n) (dests rec) (sources rec)) ∙ rw registers-are at h)
+
+-- a Gen word that fits is below the count
+pub gen-below : (n w : ℕ) → genFits n w ≡ true → w < 256 → w < n
+gen-below n w h l = ltb-true w n (rw (lt-ltb w 256 l) at h)
+
+-- one destination fits, and both do
+pub fits-one : (n x : ℕ) → all (genFits n) (x ∷ []) ≡ true → x < 256 → x < n
+unfolding all
+fits-one n x h = gen-below n x (and-both (genFits n x) true h .0)
+
+pub fits-two : (n x y : ℕ) → all (genFits n) (x ∷ y ∷ []) ≡ true → (x < 256 → x < n) × (y < 256 → y < n)
+unfolding all
+fits-two n x y h =
+    let b = and-both (genFits n x) (all (genFits n) (y ∷ [])) h in
+    (gen-below n x (b .0), fits-one n y (b .1))

@@ -1,0 +1,36 @@
+-- `mir::config::Settings::fixed` meets its contract: each arm of the branch is the case of `fixedMark` that its test picks.
+use borrow.Author.Needs.{needs}
+use Rattle.mir.specs.Records.{fixedMark}
+use Rattle.mir.proofs.config.Settings.fixed.Statement.{statement}
+use Rattle.mir.proofs.config.Settings.fixed.Tie as tie
+use Rattle.mir.proofs.config.Settings.fixed.Reads as reads
+use Rattle.mir.proofs.config.Settings.fixed.Lts as lts
+
+-- src/config.rt:19:20
+cast-args : tie.Need-cast-args
+cast-args c = search needs
+
+-- src/config.rt:21:13
+mul-result : tie.Need-mul-result
+mul-result c = search needs
+
+-- src/config.rt:21:13
+add-result : tie.Need-add-result
+add-result c = search needs
+
+-- src/config.rt:23:13
+add-result-2 : tie.Need-add-result-2
+add-result-2 c = search needs
+
+-- src/config.rt:16:5
+returns : tie.Need-returns
+unfolding fixedMark
+returns c = rw (c .if1 .taken)
+
+-- src/config.rt:16:5
+returns-2 : tie.Need-returns-2
+unfolding fixedMark
+returns-2 c = rw (c .if1 .left)
+
+pub fixed-spec : {M : Type 1} → statement M
+fixed-spec = tie.close (tie.spec cast-args mul-result add-result add-result-2 returns returns-2)

@@ -1,0 +1,23 @@
+-- `mir::is_label` meets its contract: the kind is asked before the number.
+use borrow.Author.Tests.{eq-eqb, ne-eqb}
+use Rattle.mir.specs.Beside.{isLabel}
+use borrow.Author.Needs.{needs}
+use Rattle.mir.proofs.is_label.Statement.{statement}
+use Rattle.mir.proofs.is_label.Tie as tie
+
+array-read-if1 : tie.Need-array-read-if1
+array-read-if1 c = search needs
+
+array-read-result : tie.Need-array-read-result
+array-read-result c = search needs
+
+returns : tie.Need-returns
+unfolding isLabel
+returns c = simp (eq-eqb _ _ (c .if1 .taken))
+
+returns-2 : tie.Need-returns-2
+unfolding isLabel
+returns-2 c = simp (ne-eqb _ _ (c .if1 .left))
+
+pub is-label-spec : {M : Type 1} → statement M
+is-label-spec = tie.close (tie.spec array-read-if1 array-read-result returns returns-2)

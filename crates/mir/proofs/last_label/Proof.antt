@@ -1,0 +1,76 @@
+-- `mir::last_label` meets its contract: the place found so far is the last of the records passed.
+use Prim.Native.Nat.{ℕ, _/_, _-_, _≤_}
+use mathlib.Core.Path.{_≡_, refl, sym, ap, _∙_}
+use native.Mathlib.Numerals.{add-one}
+use native.Mathlib.Omega.{arith}
+use denote.Ref.{now}
+use lib.ListN.{length}
+use mathlib.Core.Bool.{Bool, true, false, cond}
+use mathlib.Core.List.{List, [], _∷_}
+use Rattle.mir.specs.Answers.{answered}
+use Rattle.mir.specs.Beside.{labelAt, lastBelow, placeReport}
+use borrow.Author.Needs.{needs}
+use Rattle.mir.proofs.last_label.Statement.{statement}
+use Rattle.mir.proofs.last_label.Tie as tie
+
+abbrev Inv-loop : tie.InvT-loop
+Inv-loop list label n found₀ i₀ found i = (i ≤ n) × (placeReport found ≡ answered (lastBelow (labelAt list label) i))
+
+abbrev μ-loop : tie.MeasureT-loop
+μ-loop list label n found₀ i₀ found i = n - i
+
+answered-cond : (b : Bool) (x y : List ℕ) → cond b (answered x) (answered y) ≡ answered (cond b x y)
+answered-cond true x y = refl
+answered-cond false x y = refl
+
+loop-holds : tie.Need-loop-holds Inv-loop μ-loop
+unfolding lastBelow
+loop-holds c = (search needs, refl)
+
+record-at-requires : tie.Need-record-at-requires Inv-loop μ-loop
+record-at-requires c κs = omega arith
+
+cast-later-label : tie.Need-cast-later-label Inv-loop μ-loop
+cast-later-label c = search needs
+
+later-label-requires : tie.Need-later-label-requires Inv-loop μ-loop
+later-label-requires c κs = search needs
+
+add-i : tie.Need-add-i Inv-loop μ-loop
+add-i c = search needs
+
+loop-less : tie.Need-loop-less Inv-loop μ-loop
+loop-less c = search needs
+
+loop-again : tie.Need-loop-again Inv-loop μ-loop
+unfolding lastBelow
+loop-again c =
+    let at = c .before .before .before in
+    let a = at .before .before .args in
+    let p = labelAt (now (a .list)) (a .label) in
+    let i = at .loop .i in (
+      search needs,
+      rw (add-one, c .later-label .ensures, c .before .record-at .ensures, at .loop .inv .1)
+          (answered-cond (p i) (i ∷ []) (lastBelow p i)),
+    )
+
+returns : tie.Need-returns Inv-loop μ-loop
+returns c =
+    let at = c .before in
+    let e : at .loop .i ≡ length (now (at .before .before .args .list)) / 8 = omega arith in
+    rw e at (at .loop .inv .1)
+
+pub last-label-spec : {M : Type 1} → statement M
+last-label-spec =
+    tie.close
+    (tie.spec
+    Inv-loop
+    μ-loop
+    loop-holds
+    record-at-requires
+    cast-later-label
+    later-label-requires
+    add-i
+    loop-less
+    loop-again
+    returns)

@@ -1,0 +1,69 @@
+-- `mir::rename::count_statics` meets its contract: each destination counts by itself.
+use mathlib.Core.Path.{_≡_, sym, ap, _∙_}
+use mathlib.Core.List.{[], _∷_}
+use native.Mathlib.Nat.{add-zero}
+use native.Mathlib.Omega.{arith}
+use Rattle.mir.specs.Renaming.{gens}
+use Rattle.mir.specs.Shapes.{listed}
+use Rattle.mir.proofs.Renaming.{one-le}
+use borrow.Author.Needs.{needs}
+use Rattle.mir.proofs.rename.count_statics.Statement.{statement}
+use Rattle.mir.proofs.rename.count_statics.Tie as tie
+
+dests-of-requires : tie.Need-dests-of-requires
+dests-of-requires c κs = search needs
+
+enum-told : tie.Need-enum-told
+enum-told c = search needs
+
+enum-known-x : tie.Need-enum-known-x
+enum-known-x c = search needs
+
+count-static-requires : tie.Need-count-static-requires
+count-static-requires c κs = search needs
+
+enum-known-x-2 : tie.Need-enum-known-x-2
+enum-known-x-2 c = search needs
+
+count-static-requires-2 : tie.Need-count-static-requires-2
+count-static-requires-2 c κs = search needs
+
+count-static-requires-3 : tie.Need-count-static-requires-3
+count-static-requires-3 c κs = search needs
+
+add-result : tie.Need-add-result
+add-result c =
+    let v = c .before .before .before .x2 .given .0 in
+    rw (c .before .count-static2 .ensures, c .count-static3 .ensures) (omega (arith, one-le (v .0), one-le (v .1 .0)))
+
+returns : tie.Need-returns
+unfolding gens
+returns c = rw (sym (c .before .before .dests-of .ensures) ∙ ap listed (c .enum-told .given .1))
+
+returns-2 : tie.Need-returns-2
+unfolding gens
+returns-2 c =
+    let x = c .before .before in
+    rw (sym (x .before .before .dests-of .ensures) ∙ ap listed (x .x .given .1), add-zero) (c .count-static .ensures)
+
+returns-3 : tie.Need-returns-3
+unfolding gens
+returns-3 c =
+    let x = c .before .before .before in
+    rw (sym (x .before .before .dests-of .ensures) ∙ ap listed (x .x2 .given .1), add-zero, c .before .count-static2 .ensures, c .count-static3 .ensures)
+
+pub count-statics-spec : {M : Type 1} → statement M
+count-statics-spec =
+    tie.close
+    (tie.spec
+    dests-of-requires
+    enum-told
+    enum-known-x
+    count-static-requires
+    enum-known-x-2
+    count-static-requires-2
+    count-static-requires-3
+    add-result
+    returns
+    returns-2
+    returns-3)

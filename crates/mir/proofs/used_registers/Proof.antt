@@ -1,0 +1,54 @@
+-- `mir::used_registers` meets its contract: a refusal is handed on, and a list that passes has its mask and the mask's ones.
+use mathlib.Core.Path.{sym, ap, _∙_}
+use denote.Ref.{now}
+use Prim.Native.Nat.{ℕ}
+use mathlib.Core.List.{[], _∷_}
+use lib.Count.{onesIn}
+use Rattle.mir.specs.Answers.{answered}
+use Rattle.mir.specs.Beside.{usedRegisters}
+use Rattle.mir.specs.Records.{maxRegs}
+use Rattle.mir.proofs.Masks.{ones-digits}
+use Rattle.mir.proofs.Passing.{beside-passes, gens-fit-more}
+use borrow.Author.Needs.{needs}
+use Rattle.mir.proofs.used_registers.Statement.{statement}
+use Rattle.mir.proofs.used_registers.Tie as tie
+
+check-beside-requires : tie.Need-check-beside-requires
+check-beside-requires c κs = search needs
+
+enum-known-verdict : tie.Need-enum-known-verdict
+enum-known-verdict c = search needs
+
+enum-told : tie.Need-enum-told
+enum-told c = search needs
+
+used-mask-requires : tie.Need-used-mask-requires
+used-mask-requires c κs =
+    let a = c .before .before .before .before .before .args in
+    let p = beside-passes (a .settings .«count_regs») (now (a .list)) (now (a .table)) (sym (c .before .before .check-beside .ensures) ∙ c .enum-told .given .1) in
+    λ i l. gens-fit-more (a .settings .«count_regs») maxRegs _ (p .few) (p .each i l .gens)
+
+returns : tie.Need-returns
+unfolding usedRegisters
+returns c =
+    let v = c .before in
+    simp (sym (v .before .before .check-beside .ensures) ∙ v .verdict .given .1)
+
+returns-2 : tie.Need-returns-2
+unfolding usedRegisters
+returns-2 c =
+    let e = c .before in
+    simp (sym (e .before .before .check-beside .ensures) ∙ e .enum-told .given .1)
+    (rw (ones-digits 32 (c .used-mask .result) (c .used-mask .ok))
+    (ap (λ (m : ℕ). answered (m ∷ onesIn 32 m ∷ [])) (c .used-mask .ensures)))
+
+pub used-registers-spec : {M : Type 1} → statement M
+used-registers-spec =
+    tie.close
+    (tie.spec
+    check-beside-requires
+    enum-known-verdict
+    enum-told
+    used-mask-requires
+    returns
+    returns-2)

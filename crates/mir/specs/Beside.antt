@@ -1,0 +1,71 @@
+-- Document 01, section 6: the used registers, and the place of a label.
+use Prim.Native.Nat.{ℕ, zero, suc, _^_}
+use mathlib.Core.Bool.{Bool, cond, _&&_}
+use mathlib.Core.List.{List, [], _∷_}
+use lib.Bits.{bitOr}
+use lib.Count.{onesIn}
+use lib.Dec.{eqb}
+use Rattle.mir.specs.declared.Used.{Used}
+use Rattle.mir.specs.declared.Used.the-variants as used
+use Rattle.mir.specs.declared.Place.{Place}
+use Rattle.mir.specs.declared.Place.the-variants as place
+use Rattle.mir.specs.Answers.{Report, answered, refused, unless}
+use Rattle.mir.specs.Folds.{all}
+use Rattle.mir.specs.Questions.{refusalBeside}
+use Rattle.mir.specs.Records.{records, recordAt, wordAt, isGen}
+use Rattle.mir.specs.Shapes.{any, branchIf, label, dests, sources}
+
+-- the registers that a record counts: its destinations, and BranchIf its condition
+unfoldable pub counted : List ℕ → List ℕ
+counted rec = cond (eqb (wordAt rec 0) branchIf) (sources rec) (dests rec)
+
+-- the mask of registers, a bit for each; a record counts only if all of its counted registers are Gen
+unfoldable pub bits : List ℕ → ℕ
+bits [] = 0
+bits (w ∷ ws) = bitOr (2 ^ w) (bits ws)
+
+unfoldable pub maskOf : List ℕ → ℕ
+maskOf ws = cond (all isGen ws) (bits ws) 0
+
+unfoldable pub getDst : List ℕ → ℕ
+getDst rec = maskOf (counted rec)
+
+-- of the first i records, and of the whole list: every bit if compress
+unfoldable pub maskTo : List ℕ → ℕ → ℕ
+maskTo list zero = 0
+maskTo list (suc i) = bitOr (maskTo list i) (getDst (recordAt list i))
+
+unfoldable pub usedMask : Bool → List ℕ → ℕ
+usedMask compress list = cond compress any (maskTo list (records list))
+
+-- the mask, and how many registers it names: its ones
+unfoldable pub usedRegisters : ℕ → Bool → List ℕ → List ℕ → Report
+usedRegisters countRegs compress list table =
+    let mask = usedMask compress list in
+    unless (refusalBeside countRegs list table) (mask ∷ onesIn 32 mask ∷ [])
+
+abbrev pub usedReport : Used → Report
+usedReport (used.Registers mask count) = answered (mask ∷ count ∷ [])
+usedReport (used.Refused number index) = refused number index
+
+-- a record is a Label with the given number
+unfoldable pub isLabel : ℕ → List ℕ → Bool
+isLabel name rec = eqb (wordAt rec 0) label && eqb (wordAt rec 1) name
+
+abbrev pub labelAt : List ℕ → ℕ → ℕ → Bool
+labelAt list name i = isLabel name (recordAt list i)
+
+-- the last number below n for which p holds, if there is one
+unfoldable pub lastBelow : (ℕ → Bool) → ℕ → List ℕ
+lastBelow p zero = []
+lastBelow p (suc n) = cond (p n) (n ∷ []) (lastBelow p n)
+
+-- the index of the last Label with the number, or no value where it is absent
+unfoldable pub populateLabels : ℕ → ℕ → List ℕ → List ℕ → Report
+populateLabels countRegs name list table =
+    unless (refusalBeside countRegs list table) (lastBelow (labelAt list name) (records list))
+
+abbrev pub placeReport : Place → Report
+placeReport (place.At index) = answered (index ∷ [])
+placeReport place.Absent = answered []
+placeReport (place.Refused number index) = refused number index

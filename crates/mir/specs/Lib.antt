@@ -1,0 +1,8 @@
+-- What a reader must believe of records, settings and the nine questions; the files go in document 01's order.
+pub mod Records
+pub mod Shapes
+pub mod Renaming
+pub mod Folds
+pub mod Questions
+pub mod Answers
+pub mod Beside

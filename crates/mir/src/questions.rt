@@ -1,0 +1,277 @@
+// The questions before reducing (document 01, section 7).
+
+use crate::config::Settings;
+use crate::record::record_at;
+use crate::rename::Current;
+use crate::rename::count_statics;
+use crate::rename::rename;
+use crate::shape::LOAD_ARGS;
+use crate::shape::shape_of;
+ghost use Prim.Native.Nat.{_+_, _≤_, _<_};
+ghost use mathlib.Core.Bool.{cond, true};
+ghost use mathlib.Core.Path.{_≡_};
+ghost use lib.ListN.{length, take, drop};
+ghost use Rattle.mir.specs.Folds.{all};
+ghost use Rattle.mir.specs.Questions.{wellSized, wordsFit, pairsFit, fieldsFit, genFits, gensFit, partnerFits, named, sourcesNamed, shapeNo, shapeRefusal, recordNo, recordRefusal, refusal, refusalBeside};
+ghost use Rattle.mir.specs.Records.{maxRegs};
+
+// Whether a list passes; a refusal has the question's number and the index of the first bad record.
+pub enum Verdict {
+    Passed,
+    Refused(u32, u32),
+}
+
+// Question 3, of the lengths.
+fn well_sized(list: usize, table: usize) -> bool
+    ensures { λ r. ⌜ r ≡ wellSized list table ⌝ }
+{
+    if list % 8 != 0 {
+        return false;
+    }
+    if 524_288 < list {
+        return false;
+    }
+    if table % 2 != 0 {
+        return false;
+    }
+    table <= 65_536
+}
+
+// Question 6: no word is above the largest that its field may be.
+fn words_fit(rec: [u32; 8], most: [u32; 8]) -> bool
+    ensures { λ r. ⌜ r ≡ wordsFit rec most ⌝ }
+{
+    let mut p = 0;
+    while p < 8 {
+        if most[p] < rec[p] {
+            return false;
+        }
+        p += 1;
+    }
+    true
+}
+
+// Question 6: the pairs that a LoadArgs names are in the table, and each is of a space.
+fn pairs_fit(table: &[u32], first: u32, count: u32) -> bool
+    ensures { λ r. ⌜ r ≡ pairsFit (now (table .entry)) first count ⌝ }
+{
+    let from = first as usize;
+    let n = count as usize;
+    if table.len() / 2 < from + n {
+        return false;
+    }
+    let mut j = 0;
+    while j < n {
+        if 2 < table[(from + j) * 2] {
+            return false;
+        }
+        j += 1;
+    }
+    true
+}
+
+// Question 6, whole.
+fn fields_fit(rec: [u32; 8], table: &[u32]) -> bool
+    ensures { λ r. ⌜ r ≡ fieldsFit (now (table .entry)) rec ⌝ }
+{
+    let s = shape_of(rec[0]);
+    let most = s.most;
+    if !words_fit(rec, most) {
+        return false;
+    }
+    if rec[0] == LOAD_ARGS {
+        pairs_fit(table, rec[1], rec[2])
+    } else {
+        true
+    }
+}
+
+// Question 7, of one register word.
+fn gen_fits(count_regs: u32, w: u32) -> bool
+    ensures { λ r. ⌜ r ≡ genFits «count_regs» w ⌝ }
+{
+    if w < 256 { w < count_regs } else { true }
+}
+
+// Question 7, of the `count` register words from `from` on.
+fn all_gens_fit(rec: [u32; 8], from: usize, count: usize, count_regs: u32) -> bool
+    requires { ⌜ from + count ≤ 8 ⌝ }
+    ensures { λ r. ⌜ r ≡ all (genFits «count_regs») (take count (drop from rec)) ⌝ }
+{
+    let mut j = 0;
+    while j < count {
+        if !gen_fits(count_regs, rec[from + j]) {
+            return false;
+        }
+        j += 1;
+    }
+    true
+}
+
+// Question 7.
+fn gens_fit(rec: [u32; 8], count_regs: u32) -> bool
+    ensures { λ r. ⌜ r ≡ gensFit «count_regs» rec ⌝ }
+{
+    let s = shape_of(rec[0]);
+    let from = s.regs;
+    all_gens_fit(rec, from, s.dsts + s.srcs, count_regs)
+}
+
+// Question 8.
+fn partner_fits(rec: [u32; 8]) -> bool
+    ensures { λ r. ⌜ r ≡ partnerFits rec ⌝ }
+{
+    let kind = rec[0];
+    match kind {
+        7..=8 => rec[4] < 4_294_967_295,
+        _ => true,
+    }
+}
+
+// What a record is refused by, or 0: questions 5 to 7.
+fn check_shape(rec: [u32; 8], table: &[u32], count_regs: u32) -> u32
+    ensures { λ r. ⌜ r ≡ shapeNo (now (table .entry)) «count_regs» rec ⌝ }
+{
+    if 20 < rec[0] {
+        return 5;
+    }
+    if !fields_fit(rec, table) {
+        return 6;
+    }
+    if !gens_fit(rec, count_regs) {
+        return 7;
+    }
+    0
+}
+
+// Question 9, of one source word: 9 where it is a Gen without a static, else 0.
+fn check_source(regs: [Current; 32], w: u32) -> u32
+    requires { ⌜ (w < 256 → w < maxRegs) ⌝ }
+    ensures { λ r. ⌜ r ≡ cond (named regs w) 0 9 ⌝ }
+{
+    if 256 <= w {
+        return 0;
+    }
+    let r = w as usize;
+    let current = regs[r];
+    let Current::Static(_) = current else {
+        return 9;
+    };
+    0
+}
+
+// Question 9, of the `count` source words from `from` on.
+fn check_source_words(regs: [Current; 32], rec: [u32; 8], from: usize, count: usize) -> u32
+    requires { ⌜ from + count ≤ 8 ⌝ }
+    requires { ⌜ all (genFits maxRegs) (take count (drop from rec)) ≡ true ⌝ }
+    ensures { λ r. ⌜ r ≡ cond (all (named regs) (take count (drop from rec))) 0 9 ⌝ }
+{
+    let mut j = 0;
+    while j < count {
+        let by = check_source(regs, rec[from + j]);
+        if by != 0 {
+            return by;
+        }
+        j += 1;
+    }
+    0
+}
+
+// Question 9.
+fn check_sources(regs: [Current; 32], rec: [u32; 8]) -> u32
+    requires { ⌜ gensFit maxRegs rec ≡ true ⌝ }
+    ensures { λ r. ⌜ r ≡ cond (sourcesNamed regs rec) 0 9 ⌝ }
+{
+    let s = shape_of(rec[0]);
+    let from = s.regs + s.dsts;
+    let count = s.srcs;
+    check_source_words(regs, rec, from, count)
+}
+
+// What a record is refused by, or 0: questions 5 to 9.
+fn check_record(rec: [u32; 8], table: &[u32], count_regs: u32, regs: [Current; 32]) -> u32
+    requires { ⌜ «count_regs» ≤ maxRegs ⌝ }
+    ensures { λ r. ⌜ r ≡ recordNo (now (table .entry)) «count_regs» regs rec ⌝ }
+{
+    let by = check_shape(rec, table, count_regs);
+    if by != 0 {
+        return by;
+    }
+    if !partner_fits(rec) {
+        return 8;
+    }
+    check_sources(regs, rec)
+}
+
+// Questions 1, 3 and 5 to 7, for what stands beside the passes.
+pub fn check_beside(list: &[u32], table: &[u32], count_regs: u32) -> Verdict
+    ensures { λ r. ⌜ r ≡ refusalBeside «count_regs» (now (list .entry)) (now (table .entry)) ⌝ }
+{
+    if 32 < count_regs {
+        return Verdict::Refused(1, 0);
+    }
+    if !well_sized(list.len(), table.len()) {
+        return Verdict::Refused(3, 0);
+    }
+    check_shapes(list, table, count_regs)
+}
+
+// Questions 5 to 7, record by record.
+fn check_shapes(list: &[u32], table: &[u32], count_regs: u32) -> Verdict
+    requires { ⌜ wellSized (length (now list)) (length (now table)) ≡ true ⌝ }
+    ensures { λ r. ⌜ r ≡ shapeRefusal (now (table .entry)) «count_regs» (now (list .entry)) ⌝ }
+{
+    let n = list.len() / 8;
+    let mut i = 0;
+    while i < n {
+        let by = check_shape(record_at(list, i), table, count_regs);
+        if by != 0 {
+            return Verdict::Refused(by, i as u32);
+        }
+        i += 1;
+    }
+    Verdict::Passed
+}
+
+// The nine questions; `room` is the answer to question 4, which the operation that lends the buffers gives.
+pub fn check(list: &[u32], table: &[u32], settings: Settings, room: bool) -> Verdict
+    ensures { λ r. ⌜ r ≡ refusal room settings (now (list .entry)) (now (table .entry)) ⌝ }
+{
+    if 32 < settings.count_regs {
+        return Verdict::Refused(1, 0);
+    }
+    if 65_535 < settings.args {
+        return Verdict::Refused(2, 0);
+    }
+    if !well_sized(list.len(), table.len()) {
+        return Verdict::Refused(3, 0);
+    }
+    if !room {
+        return Verdict::Refused(4, 0);
+    }
+    check_records(list, table, settings.count_regs)
+}
+
+// Questions 5 to 9, record by record.
+fn check_records(list: &[u32], table: &[u32], count_regs: u32) -> Verdict
+    requires { ⌜ «count_regs» ≤ maxRegs ⌝ }
+    requires { ⌜ wellSized (length (now list)) (length (now table)) ≡ true ⌝ }
+    ensures { λ r. ⌜ r ≡ recordRefusal (now (table .entry)) «count_regs» (now (list .entry)) ⌝ }
+{
+    let n = list.len() / 8;
+    let mut regs = [Current::Unset; 32];
+    let mut statics = 0;
+    let mut i = 0;
+    while i < n {
+        let rec = record_at(list, i);
+        let by = check_record(rec, table, count_regs, regs);
+        if by != 0 {
+            return Verdict::Refused(by, i as u32);
+        }
+        let next = rename(regs, rec, statics);
+        regs = next;
+        statics += count_statics(rec);
+        i += 1;
+    }
+    Verdict::Passed
+}

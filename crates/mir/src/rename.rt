@@ -1,0 +1,76 @@
+// Which static each register holds (document 01, section 2).
+use crate::shape::CALL;
+use crate::shape::Dests;
+use crate::shape::LABEL;
+use crate::shape::dests_of;
+ghost use Prim.Native.Nat.{_+_, _<_, _≤_};
+ghost use mathlib.Core.Bool.{true};
+ghost use mathlib.Core.Path.{_≡_};
+ghost use Rattle.mir.specs.Folds.{all};
+ghost use Rattle.mir.specs.Questions.{gensFit};
+ghost use Rattle.mir.specs.Records.{maxRegs};
+ghost use Rattle.mir.specs.Renaming.{gens, one, produced, renamed};
+ghost use Rattle.mir.specs.Shapes.{dests};
+
+// A register's current static: the Rust's `Option<usize>`.
+pub enum Current {
+    Static(u32),
+    Unset,
+}
+
+// How many statics a destination makes.
+fn count_static(w: u32) -> u32
+    ensures { λ r. ⌜ r ≡ one w ⌝ }
+{
+    if w < 256 { 1 } else { 0 }
+}
+
+// A written Gen register takes the static `next`.
+fn produce(regs: [Current; 32], w: u32, next: u32) -> [Current; 32]
+    requires { ⌜ (w < 256 → w < maxRegs) ⌝ }
+    ensures { λ r. ⌜ r ≡ Rattle.mir.specs.Renaming.produce w next regs ⌝ }
+{
+    let mut out = regs;
+    if w < 256 {
+        let r = w as usize;
+        out[r] = Current::Static(next);
+    }
+    out
+}
+
+// How many statics a record makes.
+pub fn count_statics(rec: [u32; 8]) -> u32
+    ensures { λ r. ⌜ r ≡ gens (dests rec) ⌝ }
+{
+    match dests_of(rec) {
+        Dests::Nothing => 0,
+        Dests::One(x) => count_static(x),
+        Dests::Two(x, y) => count_static(x) + count_static(y),
+    }
+}
+
+// The registers after the destinations of a record; its first new static is `next`.
+fn produce_all(regs: [Current; 32], rec: [u32; 8], next: u32) -> [Current; 32]
+    requires { ⌜ gensFit maxRegs rec ≡ true ⌝ }
+    requires { ⌜ next < 4294967295 ⌝ }
+    ensures { λ r. ⌜ r ≡ produced (dests rec) next regs ⌝ }
+{
+    match dests_of(rec) {
+        Dests::Nothing => regs,
+        Dests::One(x) => produce(regs, x, next),
+        Dests::Two(x, y) => produce(produce(regs, x, next), y, next + count_static(x)),
+    }
+}
+
+// The registers after a record.
+pub fn rename(regs: [Current; 32], rec: [u32; 8], next: u32) -> [Current; 32]
+    requires { ⌜ gensFit maxRegs rec ≡ true ⌝ }
+    requires { ⌜ next < 4294967295 ⌝ }
+    ensures { λ r. ⌜ r ≡ renamed rec next regs ⌝ }
+{
+    let kind = rec[0];
+    match kind {
+        CALL | LABEL => [Current::Unset; 32],
+        _ => produce_all(regs, rec, next),
+    }
+}

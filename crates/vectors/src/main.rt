@@ -1,0 +1,127 @@
+// Replays stored answers of the original Rust against the C doors. docs/FORMAT.md has the form of its input, which
+// importer/ makes; this program needs no Rust.
+use libc::STDIN_FILENO;
+use libc::STDOUT_FILENO;
+ghost use Prim.Native.Nat.{_≤_};
+ghost use mathlib.Core.Path.{_≡_};
+ghost use lib.Dec.{leb};
+ghost use lib.ListN.{length};
+
+// The longest table and list of a stored case, in words.
+const TABLE: usize = 1024;
+
+const LIST: usize = 4096;
+
+fn wide(x: u8) -> u32
+    ensures { λ r. ⌜ r ≤ 255 ⌝ }
+{
+    x as u32
+}
+
+// The next word of the input, lowest byte first; 0 past its end.
+fn word() -> u32 {
+    let mut b = [0u8; 4];
+    io::read_full(STDIN_FILENO, &mut b);
+    wide(b[0]) + wide(b[1]) * 256 + wide(b[2]) * 65_536 + wide(b[3]) * 16_777_216
+}
+
+// Puts `w` at `i`, where there is room.
+fn put(out: &mut [u32], i: usize, w: u32)
+    ensures { λ _. ⌜ length (now (out .exit)) ≡ length (now (out .entry)) ⌝ }
+{
+    if i < out.len() {
+        out[i] = w;
+    }
+}
+
+// Puts the next `n` words at the start of `out`, and answers whether they had room there.
+fn words(out: &mut [u32], n: usize) -> bool
+    ensures { λ r. ⌜ length (now (out .exit)) ≡ length (now (out .entry)) ⌝ }
+    ensures { λ r. ⌜ r ≡ leb n (length (now (out .entry))) ⌝ }
+{
+    let mut i = 0;
+    while i < n {
+        put(out, i, word());
+        i += 1;
+    }
+    n <= out.len()
+}
+
+struct Settings {
+    count_regs: u32,
+    args: u32,
+    complex: u32,
+    arm: u32,
+    compress: u32,
+}
+
+fn read_settings() -> Settings {
+    let count_regs = word();
+    let args = word();
+    let complex = word();
+    let arm = word();
+    let compress = word();
+    Settings {
+        count_regs,
+        args,
+        complex,
+        arm,
+        compress,
+    }
+}
+
+// What the door answers; 0 for an operation that there is none of.
+fn answer(op: u32, s: Settings, label: u32, list: &[u32], table: &[u32]) -> u64 {
+    match op {
+        1 => entry::rudzaviks_used_registers(list, table, s.count_regs, s.compress),
+        2 => entry::rudzaviks_populate_labels(list, table, s.count_regs, label),
+        _ => 0,
+    }
+}
+
+// Whether the next case's answer is the stored one.
+fn replay() -> bool {
+    let op = word();
+    let s = read_settings();
+    let label = word();
+    let mut table = [0u32; TABLE];
+    let pairs = word() as usize;
+    if !words(&mut table, pairs) {
+        return false;
+    }
+    let mut list = [0u32; LIST];
+    let n = word() as usize;
+    if !words(&mut list, n) {
+        return false;
+    }
+    let low = word() as u64;
+    let high = word() as u64;
+    answer(op, s, label, &list[..n], &table[..pairs]) == high * 4_294_967_296 + low
+}
+
+// Replays case `i`, names it where it differs, and answers how many cases differed.
+fn count_differing(i: u32) -> u32
+    ensures { λ r. ⌜ r ≤ 1 ⌝ }
+{
+    if replay() {
+        return 0;
+    }
+    io::write_all(STDOUT_FILENO, b"differs: case ");
+    io::print_decimal(STDOUT_FILENO, i as u64);
+    io::write_all(STDOUT_FILENO, b"\n");
+    1
+}
+
+fn main() {
+    let cases = word();
+    let mut differ = 0;
+    let mut i = 0;
+    while i < cases {
+        differ += count_differing(i);
+        i += 1;
+    }
+    io::print_decimal(STDOUT_FILENO, cases as u64);
+    io::write_all(STDOUT_FILENO, b" answers replayed, ");
+    io::print_decimal(STDOUT_FILENO, differ as u64);
+    io::write_all(STDOUT_FILENO, b" differ\n");
+}

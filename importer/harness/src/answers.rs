@@ -1,0 +1,43 @@
+//! The words that are owed by the doors: the original's answer, or the refusal of the first
+//! question that is answered no.
+//!
+//! Bits 32 to 55 hold the question's number, 0 for none. With a number, bits 0 to 31 hold the
+//! record's index.
+
+use oracle::Reg;
+
+use crate::lists::List;
+use crate::questions::{refusal_beside, Refusal};
+use crate::run;
+
+/// Stands in bits 0 to 31 where no Label has the number.
+pub const ABSENT: u64 = 4_294_967_295;
+
+pub fn refused((number, index): Refusal) -> u64 {
+    (u64::from(number) << 32) | index as u64
+}
+
+/// The mask in bits 0 to 31, how many registers it names in bits 56 to 63; or a refusal.
+pub fn used_registers(list: &List) -> u64 {
+    if let Some(no) = refusal_beside(list.settings.count_regs, &list.words, &list.table) {
+        return refused(no);
+    }
+    let mir = run::mir(list).expect("a list that passes has a meaning");
+    let used = mir.used_registers();
+    let mask = used.iter().fold(0, |mask, reg| match reg {
+        Reg::Gen(number) => mask | (1u32 << number),
+        _ => panic!("{reg:?} is no Gen register"),
+    });
+    ((used.len() as u64) << 56) | u64::from(mask)
+}
+
+/// For each of the labels, the index of its last Label, or ABSENT; or a refusal.
+pub fn populate_labels(list: &List, labels: &[u32]) -> Vec<u64> {
+    if let Some(no) = refusal_beside(list.settings.count_regs, &list.words, &list.table) {
+        return vec![refused(no); labels.len()];
+    }
+    let mut mir = run::mir(list).expect("a list that passes has a meaning");
+    mir.populate_labels();
+    let place = |label: &u32| mir.labels.get(&label.to_string());
+    labels.iter().map(|label| place(label).map_or(ABSENT, |index| *index as u64)).collect()
+}

@@ -1,0 +1,27 @@
+//! What the tests stand on: lists of records, good and damaged, and the answers that are owed for
+//! them by the original and by the questions. Nothing here calls the verified code.
+
+pub mod answers;
+pub mod damage;
+pub mod limits;
+pub mod lists;
+pub mod questions;
+pub mod quiet;
+pub mod random;
+pub mod record;
+pub mod roles;
+pub mod run;
+pub mod settings;
+pub mod ten;
+pub mod vectors;
+
+/// With fewer lists than this, a test could miss a case that it counts.
+const FEWEST: u64 = 20_000;
+
+/// How many random lists a test takes: the variable RUDZAVIKS_LISTS, or else the given number.
+pub fn how_many(usual: u64) -> u64 {
+    match std::env::var("RUDZAVIKS_LISTS") {
+        Ok(text) => FEWEST.max(text.parse().expect("RUDZAVIKS_LISTS is a number")),
+        Err(_) => usual,
+    }
+}

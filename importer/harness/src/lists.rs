@@ -1,0 +1,270 @@
+//! Random lists that pass every question.
+
+use crate::random::Random;
+use crate::record::{Record, WORDS};
+use crate::roles::{role, Role, KINDS, STRAIGHT};
+use crate::settings::Settings;
+
+/// A list with its settings and the table that is lent beside it.
+#[derive(Clone, Debug, PartialEq, Eq)]
+pub struct List {
+    pub settings: Settings,
+    pub table: Vec<u32>,
+    pub words: Vec<u32>,
+}
+
+impl List {
+    pub fn records(&self) -> usize {
+        self.words.len() / WORDS
+    }
+
+    pub fn record(&self, at: usize) -> &[u32] {
+        &self.words[at * WORDS..(at + 1) * WORDS]
+    }
+
+    pub fn record_mut(&mut self, at: usize) -> &mut [u32] {
+        &mut self.words[at * WORDS..(at + 1) * WORDS]
+    }
+
+    /// The numbers in the list's Label records, in order.
+    pub fn labels(&self) -> Vec<u32> {
+        let labels = self.words.chunks_exact(WORDS).filter(|record| record[0] == 15);
+        labels.map(|record| record[1]).collect()
+    }
+}
+
+/// What a random list is to be like.
+#[derive(Clone, Debug)]
+pub struct Taste {
+    pub settings: Settings,
+    pub records: usize,
+    pub pairs: usize,
+    /// How many indexes each space has in use: few, so that locations collide.
+    pub cells: u32,
+    /// How many label numbers are in use.
+    pub labels: u32,
+    /// How many of 100 registers are named ones.
+    pub named: u32,
+    /// How many of 100 indexes, constants and labels are at an end of their range.
+    pub extreme: u32,
+    /// How often each kind comes, beside the others.
+    pub weights: [u32; KINDS],
+}
+
+impl Taste {
+    /// All kinds alike, few registers and cells.
+    pub fn plain(records: usize) -> Taste {
+        Taste {
+            settings: Settings { count_regs: 4, ..Settings::default() },
+            records,
+            pairs: 6,
+            cells: 3,
+            labels: 3,
+            named: 10,
+            extreme: 2,
+            weights: [1; KINDS],
+        }
+    }
+
+    /// Any taste, with at most the given number of records.
+    pub fn random(random: &mut Random, most_records: u32) -> Taste {
+        let most = if random.percent(80) { most_records.min(24) } else { most_records };
+        let pairs = if random.percent(30) { 0 } else { random.index(12) };
+        Taste {
+            settings: random_settings(random),
+            records: random.between(0, most) as usize,
+            pairs,
+            cells: random.between(1, 6),
+            labels: random.between(1, 6),
+            named: random.pick(&[0, 5, 10, 50, 90]),
+            extreme: random.pick(&[0, 0, 2, 20]),
+            weights: random_weights(random),
+        }
+    }
+
+    /// The same taste, with scalar straight-line kinds alone.
+    pub fn straight(mut self) -> Taste {
+        for kind in 0..KINDS {
+            if !STRAIGHT.contains(&(kind as u32)) {
+                self.weights[kind] = 0;
+            }
+        }
+        if self.weights.iter().all(|weight| *weight == 0) {
+            STRAIGHT.iter().for_each(|kind| self.weights[*kind as usize] = 1);
+        }
+        self
+    }
+}
+
+fn random_settings(random: &mut Random) -> Settings {
+    let count_regs = if random.percent(70) { random.between(0, 6) } else { random.between(0, 32) };
+    let small = random.between(0, 5);
+    Settings {
+        count_regs,
+        args: if random.percent(95) { small } else { 65_535 - small },
+        complex: random.percent(50),
+        arm: random.percent(50),
+        compress: random.percent(20),
+    }
+}
+
+fn random_weights(random: &mut Random) -> [u32; KINDS] {
+    let mut weights = [1; KINDS];
+    match random.below(4) {
+        0 => {}
+        // long stretches in which locations stay known
+        1 => {
+            [4, 5, 6, 7, 8].iter().for_each(|kind| weights[*kind] = 20);
+            [2, 3, 9, 14, 18, 20].iter().for_each(|kind| weights[*kind] = 5);
+        }
+        // many labels and jumps
+        2 => [12, 15, 16, 17].iter().for_each(|kind| weights[*kind] = 5),
+        _ => {
+            weights.iter_mut().for_each(|weight| *weight = random.below(10));
+            weights[random.index(KINDS)] += 1;
+        }
+    }
+    weights
+}
+
+/// A list to the taste. Every Gen that it reads was written since the last Label or Call.
+pub fn list(random: &mut Random, taste: &Taste) -> List {
+    let mut maker = Maker { random, taste, has_static: 0 };
+    let mut table = Vec::new();
+    for _ in 0..taste.pairs {
+        let (space, index) = maker.cell();
+        table.extend([space, index]);
+    }
+    let mut words = Vec::with_capacity(taste.records * WORDS);
+    for _ in 0..taste.records {
+        let kind = maker.kind();
+        words.extend(maker.record(kind));
+    }
+    List { settings: taste.settings, table, words }
+}
+
+/// A list of any taste, one in four straight.
+pub fn any_list(random: &mut Random, most_records: u32) -> List {
+    let taste = Taste::random(random, most_records);
+    let taste = if random.percent(25) { taste.straight() } else { taste };
+    list(random, &taste)
+}
+
+struct Maker<'a> {
+    random: &'a mut Random,
+    taste: &'a Taste,
+    /// One bit for each Gen register that has a static.
+    has_static: u32,
+}
+
+impl Maker<'_> {
+    fn kind(&mut self) -> u32 {
+        let mut left = self.random.below(self.taste.weights.iter().sum());
+        for (kind, weight) in self.taste.weights.iter().enumerate() {
+            if left < *weight {
+                return kind as u32;
+            }
+            left -= weight;
+        }
+        unreachable!("the weights' sum is above every number drawn")
+    }
+
+    fn record(&mut self, kind: u32) -> Record {
+        let mut record = [0; WORDS];
+        record[0] = kind;
+        let (space, index) = self.cell();
+        let (first, count) = self.span();
+        for (word, value) in record.iter_mut().enumerate().skip(1) {
+            *value = match role(kind, word) {
+                Role::Op(ops) => self.random.below(ops),
+                Role::Source => self.source(),
+                Role::Destination => self.destination(),
+                Role::Space => space,
+                Role::Index => index,
+                Role::PartnerIndex => index.min(u32::MAX - 1),
+                Role::First => first,
+                Role::Count => count,
+                Role::Flag => self.random.below(2),
+                Role::Byte => self.random.below(256),
+                Role::Label => self.label(),
+                Role::Any => self.any(),
+                Role::Unused => 0,
+            };
+        }
+        self.rename(&record);
+        record
+    }
+
+    fn rename(&mut self, record: &Record) {
+        self.has_static = statics_after(record, self.has_static);
+    }
+
+    fn named(&mut self) -> u32 {
+        self.random.between(256, 259)
+    }
+
+    fn source(&mut self) -> u32 {
+        if self.has_static == 0 || self.random.percent(self.taste.named) {
+            return self.named();
+        }
+        let mut left = self.random.below(self.has_static.count_ones());
+        let mut mask = self.has_static;
+        while left > 0 {
+            mask &= mask - 1;
+            left -= 1;
+        }
+        mask.trailing_zeros()
+    }
+
+    fn destination(&mut self) -> u32 {
+        let count_regs = self.taste.settings.count_regs;
+        if count_regs == 0 || self.random.percent(self.taste.named) {
+            return self.named();
+        }
+        self.random.below(count_regs)
+    }
+
+    fn cell(&mut self) -> (u32, u32) {
+        let space = self.random.below(3);
+        if self.random.percent(self.taste.extreme) {
+            return (space, self.random.pick(&[0, u32::MAX - 2, u32::MAX - 1, u32::MAX]));
+        }
+        let low = match space {
+            0 => self.taste.settings.fixed_mark() - self.taste.cells / 2,
+            _ => 0,
+        };
+        (space, low + self.random.below(self.taste.cells))
+    }
+
+    fn span(&mut self) -> (u32, u32) {
+        let pairs = self.taste.pairs as u32;
+        let first = self.random.between(0, pairs);
+        (first, self.random.between(0, (pairs - first).min(8)))
+    }
+
+    fn label(&mut self) -> u32 {
+        if self.random.percent(self.taste.extreme) {
+            return self.random.pick(&[0, u32::MAX - 1, u32::MAX]);
+        }
+        self.random.below(self.taste.labels)
+    }
+
+    fn any(&mut self) -> u32 {
+        if self.random.percent(self.taste.extreme) {
+            return self.random.pick(&[0, u32::MAX - 1, u32::MAX]);
+        }
+        self.random.below(8)
+    }
+}
+
+/// The Gen registers that have a static after a record, given those that had one before it.
+pub fn statics_after(record: &[u32], before: u32) -> u32 {
+    let forgets = record[0] == 12 || record[0] == 15;
+    let mut after = if forgets { 0 } else { before };
+    for word in 1..WORDS {
+        if role(record[0], word) == Role::Destination && record[word] < 32 {
+            after |= 1 << record[word];
+        }
+    }
+    after
+}

@@ -1,0 +1,181 @@
+//! The questions that a list must pass, in plain Rust, kind by kind.
+//!
+//! This is a second statement of them: it shares nothing with the verified code.
+
+use crate::settings::Settings;
+
+/// The number of the question that was answered no, and the record's index.
+pub type Refusal = (u32, usize);
+
+const LAST_INDEX: u32 = 4_294_967_295;
+
+/// The nine questions before reducing. `room` is the answer to the fourth, on the lent buffers.
+pub fn refusal(settings: &Settings, list: &[u32], table: &[u32], room: bool) -> Option<Refusal> {
+    if settings.count_regs > 32 {
+        return Some((1, 0));
+    }
+    if settings.args > 65_535 {
+        return Some((2, 0));
+    }
+    if !sizes_fit(list, table) {
+        return Some((3, 0));
+    }
+    if !room {
+        return Some((4, 0));
+    }
+    let mut has_static = [false; 32];
+    for (index, record) in list.chunks_exact(8).enumerate() {
+        let number =
+            first_no(record, table, settings.count_regs).or_else(|| later_no(record, &has_static));
+        if let Some(number) = number {
+            return Some((number, index));
+        }
+        rename(record, &mut has_static);
+    }
+    None
+}
+
+/// The questions of the operations beside the passes: 1, 3 and 5 to 7.
+pub fn refusal_beside(count_regs: u32, list: &[u32], table: &[u32]) -> Option<Refusal> {
+    if count_regs > 32 {
+        return Some((1, 0));
+    }
+    if !sizes_fit(list, table) {
+        return Some((3, 0));
+    }
+    for (index, record) in list.chunks_exact(8).enumerate() {
+        if let Some(number) = first_no(record, table, count_regs) {
+            return Some((number, index));
+        }
+    }
+    None
+}
+
+fn sizes_fit(list: &[u32], table: &[u32]) -> bool {
+    let list_fits = list.len().is_multiple_of(8) && list.len() <= 524_288;
+    list_fits && table.len().is_multiple_of(2) && table.len() <= 65_536
+}
+
+/// Questions 5 to 7 on one record.
+fn first_no(record: &[u32], table: &[u32], count_regs: u32) -> Option<u32> {
+    if record[0] > 20 {
+        return Some(5);
+    }
+    if !fields_fit(record, table) {
+        return Some(6);
+    }
+    let gen_fits = |register: &u32| *register > 255 || *register < count_regs;
+    if !sources(record).iter().all(gen_fits) || !destinations(record).iter().all(gen_fits) {
+        return Some(7);
+    }
+    None
+}
+
+/// Questions 8 and 9 on one record.
+fn later_no(record: &[u32], has_static: &[bool; 32]) -> Option<u32> {
+    if (record[0] == 7 || record[0] == 8) && record[4] == LAST_INDEX {
+        return Some(8);
+    }
+    let named = |register: &u32| *register > 255 || has_static[*register as usize];
+    if !sources(record).iter().all(named) {
+        return Some(9);
+    }
+    None
+}
+
+/// A written Gen register has a static from then on; Label and Call forget them all.
+fn rename(record: &[u32], has_static: &mut [bool; 32]) {
+    if record[0] == 12 || record[0] == 15 {
+        *has_static = [false; 32];
+    }
+    for register in destinations(record) {
+        if *register <= 255 {
+            has_static[*register as usize] = true;
+        }
+    }
+}
+
+/// Question 6.
+fn fields_fit(r: &[u32], table: &[u32]) -> bool {
+    match r[0] {
+        0 | 1 => unused(&r[1..]),
+        2 => r[1] < 20 && regs(&r[2..4]) && unused(&r[4..]),
+        3 => r[1] < 15 && regs(&r[2..5]) && unused(&r[5..]),
+        4 => regs(&r[1..3]) && unused(&r[3..]),
+        5 | 6 => regs(&r[1..2]) && space(r[2]) && unused(&r[4..]),
+        7 | 8 => regs(&r[1..3]) && space(r[3]) && unused(&r[5..]),
+        9 => regs(&r[1..2]) && unused(&r[3..]),
+        10 => pairs(r[1], r[2], table) && flag(r[3]) && flag(r[4]) && unused(&r[5..]),
+        11 => r[1] < 256 && flag(r[2]) && flag(r[3]) && unused(&r[4..]),
+        12 => unused(&r[3..]),
+        13 => r[1] < 4 && regs(&r[2..6]) && unused(&r[6..]),
+        14 => regs(&r[1..4]) && space(r[4]) && unused(&r[6..]),
+        15 | 16 => unused(&r[2..]),
+        17 => regs(&r[1..2]) && flag(r[3]) && unused(&r[4..]),
+        18 => r[1] < 4 && regs(&r[2..4]) && space(r[4]) && unused(&r[6..]),
+        19 => r[1] < 4 && regs(&r[2..4]) && unused(&r[5..]),
+        20 => r[1] < 4 && regs(&r[2..8]),
+        _ => false,
+    }
+}
+
+fn unused(words: &[u32]) -> bool {
+    words.iter().all(|word| *word == 0)
+}
+
+fn regs(words: &[u32]) -> bool {
+    words.iter().all(|word| *word <= 259)
+}
+
+fn space(word: u32) -> bool {
+    word <= 2
+}
+
+fn flag(word: u32) -> bool {
+    word <= 1
+}
+
+fn pairs(first: u32, count: u32, table: &[u32]) -> bool {
+    let pairs = table.len() as u64 / 2;
+    if u64::from(first) + u64::from(count) > pairs {
+        return false;
+    }
+    let (first, count) = (first as usize, count as usize);
+    (first..first + count).all(|pair| space(table[2 * pair]))
+}
+
+/// The registers that a record of a known kind reads.
+fn sources(r: &[u32]) -> &[u32] {
+    match r[0] {
+        2 => &r[3..4],
+        3 => &r[3..5],
+        4 => &r[2..3],
+        6 => &r[1..2],
+        8 => &r[1..3],
+        13 => &r[3..6],
+        14 => &r[2..4],
+        17 => &r[1..2],
+        18 => &r[3..4],
+        19 => &r[3..4],
+        20 => &r[4..8],
+        _ => &[],
+    }
+}
+
+/// The registers that a record of a known kind writes.
+fn destinations(r: &[u32]) -> &[u32] {
+    match r[0] {
+        2 => &r[2..3],
+        3 => &r[2..3],
+        4 => &r[1..2],
+        5 => &r[1..2],
+        7 => &r[1..3],
+        9 => &r[1..2],
+        13 => &r[2..3],
+        14 => &r[1..2],
+        18 => &r[2..3],
+        19 => &r[2..3],
+        20 => &r[2..4],
+        _ => &[],
+    }
+}

@@ -1,0 +1,28 @@
+//! The five settings of a list.
+
+use oracle::{CompilerType, Config, COMPLEX, COMPRESS};
+
+#[derive(Clone, Copy, Debug, Default, PartialEq, Eq)]
+pub struct Settings {
+    pub count_regs: u32,
+    pub args: u32,
+    pub complex: bool,
+    pub arm: bool,
+    pub compress: bool,
+}
+
+impl Settings {
+    /// Stack cells from this index on are the allocator's own.
+    pub fn fixed_mark(&self) -> u32 {
+        let slots = if self.complex { 2 } else { 1 };
+        slots * self.args + 16
+    }
+
+    /// The same settings, as the original has them.
+    pub fn config(&self) -> Config {
+        let complex = if self.complex { COMPLEX } else { 0 };
+        let compress = if self.compress { COMPRESS } else { 0 };
+        let ty = if self.arm { CompilerType::Arm } else { CompilerType::Amd };
+        Config { opt: complex | compress, ty, args: self.args }
+    }
+}

@@ -1,0 +1,184 @@
+//! The statement of the questions, against faults put in by hand and against the original.
+
+use harness::damage::{damaged, Fault, OF_LIST, OF_RECORD};
+use harness::lists::{any_list, list, List, Taste};
+use harness::questions::{refusal, refusal_beside, Refusal};
+use harness::quiet::caught;
+use harness::random::Random;
+use harness::settings::Settings;
+use harness::{how_many, run};
+
+fn whole(list: &List) -> Option<Refusal> {
+    refusal(&list.settings, &list.words, &list.table, true)
+}
+
+fn beside(list: &List) -> Option<Refusal> {
+    refusal_beside(list.settings.count_regs, &list.words, &list.table)
+}
+
+fn some_list(random: &mut Random, records: usize) -> List {
+    let count_regs = random.between(1, 31);
+    let settings = Settings { count_regs, ..Settings::default() };
+    list(random, &Taste { settings, ..Taste::plain(records) })
+}
+
+/// What the operations beside the passes say of a fault alone.
+fn asked_beside(number: u32) -> bool {
+    matches!(number, 1 | 3 | 5 | 6 | 7)
+}
+
+#[test]
+fn each_fault_of_a_record_has_its_number_and_place() {
+    let mut random = Random::new(21);
+    for fault in OF_RECORD {
+        for at in [0, 5, 10] {
+            let mut times = 0;
+            for _ in 0..2_000 {
+                let mut list = some_list(&mut random, 11);
+                if fault.put(&mut random, &mut list, at) {
+                    times += 1;
+                    let no = Some((fault.number(), at));
+                    assert_eq!(whole(&list), no, "{fault:?} {list:?}");
+                    let no = no.filter(|_| asked_beside(fault.number()));
+                    assert_eq!(beside(&list), no, "{fault:?} {list:?}");
+                }
+            }
+            assert!(times > 20, "{fault:?} at {at}: {times} times");
+        }
+    }
+}
+
+#[test]
+fn each_fault_of_a_list_has_its_number() {
+    let mut random = Random::new(22);
+    for fault in OF_LIST {
+        for _ in 0..20 {
+            let mut list = some_list(&mut random, 11);
+            // a later question's fault beside it
+            Fault::Kind.put(&mut random, &mut list, 0);
+            assert!(fault.put(&mut random, &mut list, 0));
+            assert_eq!(whole(&list), Some((fault.number(), 0)), "{fault:?}");
+            let number = if asked_beside(fault.number()) { fault.number() } else { 5 };
+            assert_eq!(beside(&list), Some((number, 0)), "{fault:?}");
+        }
+    }
+}
+
+#[test]
+fn earlier_questions_decide() {
+    let mut random = Random::new(23);
+    let mut list = some_list(&mut random, 3);
+    let decides = |list: &List, room, number| {
+        assert_eq!(refusal(&list.settings, &list.words, &list.table, room), Some((number, 0)));
+    };
+    decides(&list, false, 4);
+    Fault::Kind.put(&mut random, &mut list, 0);
+    decides(&list, true, 5);
+    decides(&list, false, 4);
+    Fault::OddTable.put(&mut random, &mut list, 0);
+    decides(&list, false, 3);
+    Fault::Args.put(&mut random, &mut list, 0);
+    decides(&list, false, 2);
+    Fault::CountRegs.put(&mut random, &mut list, 0);
+    decides(&list, false, 1);
+}
+
+#[test]
+fn limits_are_where_they_are() {
+    let at = |count_regs, args, words: usize, table: usize| {
+        let settings = Settings { count_regs, args, ..Settings::default() };
+        refusal(&settings, &vec![0; words], &vec![0; table], true)
+    };
+    assert_eq!(at(32, 65_535, 524_288, 65_536), None);
+    assert_eq!(at(33, 65_535, 524_288, 65_536), Some((1, 0)));
+    assert_eq!(at(32, 65_536, 524_288, 65_536), Some((2, 0)));
+    assert_eq!(at(32, 65_535, 524_296, 65_536), Some((3, 0)));
+    assert_eq!(at(32, 65_535, 524_288, 65_538), Some((3, 0)));
+    assert_eq!(at(32, 65_535, 524_287, 65_536), Some((3, 0)));
+    assert_eq!(at(32, 65_535, 524_288, 65_535), Some((3, 0)));
+}
+
+#[test]
+fn the_first_bad_record_decides() {
+    let mut random = Random::new(24);
+    let mut times = 0;
+    for _ in 0..20_000 {
+        let mut list = some_list(&mut random, 12);
+        let (first, second) = (random.index(6), 6 + random.index(6));
+        let (early, late) = (random.pick(&OF_RECORD), random.pick(&OF_RECORD));
+        if late.put(&mut random, &mut list, second) && early.put(&mut random, &mut list, first) {
+            times += 1;
+            assert_eq!(whole(&list), Some((early.number(), first)), "{list:?}");
+        }
+    }
+    assert!(times > 1_000, "{times} times");
+}
+
+#[test]
+fn the_lower_question_decides() {
+    let mut random = Random::new(25);
+    let mut times = 0;
+    for _ in 0..40_000 {
+        let mut list = some_list(&mut random, 3);
+        let at = random.index(3);
+        let (low, high) = (random.pick(&OF_RECORD), random.pick(&OF_RECORD));
+        if low.number() < high.number()
+            && high.put(&mut random, &mut list, at)
+            && low.put(&mut random, &mut list, at)
+        {
+            times += 1;
+            assert_eq!(whole(&list), Some((low.number(), at)), "{low:?} {high:?} {list:?}");
+        }
+    }
+    assert!(times > 1_000, "{times} times");
+}
+
+/// With no registers the original never asks for a SaveComplex's partner.
+fn partner_is_asked_for(list: &List, at: usize) -> bool {
+    list.settings.count_regs > 0 || list.record(at)[0] == 7
+}
+
+fn overflow_is_checked() -> bool {
+    caught(|| oracle::Loc::Mem(std::hint::black_box(u32::MAX)).imag()).is_err()
+}
+
+/// The original panics at questions 7 and 9, at 8 in a build with overflow checks, and nowhere
+/// else. At 9 its message has the index.
+fn panic_agrees(list: &List, no: Option<Refusal>) {
+    let outcome = caught(|| run::optimize(list));
+    match no {
+        None => assert!(outcome.is_ok(), "{list:?}"),
+        Some((7, _)) => assert!(outcome.is_err(), "{list:?}"),
+        Some((9, at)) => {
+            let message = outcome.expect_err("a panic");
+            assert!(message.ends_with(&format!("not found (line {at})")), "{message} {list:?}");
+        }
+        Some((8, at)) => {
+            let mut rest = list.clone();
+            rest.record_mut(at)[4] = 0;
+            let panics = overflow_is_checked() && partner_is_asked_for(list, at);
+            if panics || whole(&rest).is_none() {
+                assert_eq!(outcome.is_err(), panics, "{list:?}");
+            }
+        }
+        Some(no) => panic!("{no:?} is no question of the original's: {list:?}"),
+    }
+}
+
+#[test]
+fn the_original_panics_where_a_list_is_refused() {
+    let mut random = Random::new(26);
+    let mut times = [0u32; 10];
+    for _ in 0..how_many(200_000) {
+        let list = any_list(&mut random, 40);
+        panic_agrees(&list, None);
+        let list = damaged(&mut random, &list);
+        let no = whole(&list);
+        let number = no.map_or(0, |(number, _)| number);
+        if matches!(number, 0 | 7..=9) && run::mir(&list).is_some() {
+            times[number as usize] += 1;
+            panic_agrees(&list, no);
+        }
+    }
+    assert!([0, 7, 8, 9].iter().all(|number| times[*number] > 100), "{times:?}");
+}

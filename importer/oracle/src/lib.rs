@@ -1,0 +1,13 @@
+//! The original: symjit's `rust/allocator.rs`, unchanged, with the parts of its neighbours that it
+//! leans on, and `get_dst`, `used_registers` and `populate_labels` of `rust/mir.rs`.
+//! Repository siravan/symjit at ee8b609e48, MIT licence, see NOTICE.
+
+pub mod symjit;
+
+pub use symjit::allocator::GreedyAllocator;
+pub use symjit::config::{Config, COMPLEX, COMPRESS};
+pub use symjit::mir::{ArithOp, BinOp, FusedOp, Instruction, Mir, UniOp};
+pub use symjit::runnable::CompilerType;
+pub use symjit::serializer::MirWriter;
+pub use symjit::symbol::Loc;
+pub use symjit::utils::Reg;
