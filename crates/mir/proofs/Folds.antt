@@ -31,6 +31,11 @@ module _ (p : ℕ → Bool) where
   unfolding allBelow
   all-more n a h = rw (add-one, a, h)
 
+  pub all-each : (n : ℕ) → ((j : ℕ) → j < n → p j ≡ true) → allBelow n p ≡ true
+  unfolding allBelow
+  all-each zero h = refl
+  all-each (suc n) h = rw (all-each n (λ j l. h j (omega arith)), h n (omega arith))
+
   pub all-fails : (n j : ℕ) → j < n → p j ≡ false → allBelow n p ≡ false
   unfolding allBelow
   all-fails zero j l h = absurd (omega arith)

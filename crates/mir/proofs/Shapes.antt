@@ -1,14 +1,21 @@
 -- The table of shapes: which kinds have no fields, and that a shape's places lie in the record.
 -- A rule of the table is one test that computes over the rows, carried to each kind by `each-at`; past the end stands `bare`.
-use Prim.Native.Nat.{ℕ, zero, suc, _+_, _<_, _≤_}
-use mathlib.Core.Bool.{Bool, true, false, _&&_}
+use Prim.Native.Nat.{ℕ, zero, suc, _+_, _*_, _<_, _≤_}
+use mathlib.Core.Bool.{Bool, true, false, cond, _&&_}
 use mathlib.Core.List.{List, [], _∷_}
-use lib.Dec.{T, leb, leb→le}
-use mathlib.Core.Path.{_≡_, refl}
+use lib.Dec.{T, leb, ltb, eqb, leb→le, eqb→eq}
+use borrow.Author.Tests.{le-leb, lt-ltb, eqb-true}
+use mathlib.Core.Path.{_≡_, refl, sym, ap, _∙_}
+use native.Mathlib.Nat.{zero-add, add-zero, suc-add, add-suc}
+use native.Mathlib.Decide.{decLt}
 use native.Mathlib.Omega.{arith}
 use lib.ListN.{length, getD, List·getD-eq-default}
+use Rattle.mir.specs.declared.shape.Action.{Action}
+use Rattle.mir.specs.declared.shape.Action.the-variants as action
 use Rattle.mir.specs.declared.shape.Shape.{Shape}
-use Rattle.mir.specs.Shapes.{shapeOf, shapes, bare, shapeFor, dests, sources}
+use Rattle.mir.specs.Shapes.{shapeOf, shapes, bare, reg, loadArgs, shapeFor, dests, sources}
+use Rattle.mir.specs.Folds.{allBelow}
+use Rattle.mir.proofs.Folds.{all-at}
 use Rattle.mir.proofs.Records.{tabulate, words-at}
 
 pub bare-first : (k : ℕ) → k < 2 → bare ≡ shapeOf k
@@ -75,3 +82,79 @@ module _ (rec : List ℕ) (s : Shape) (same : s ≡ shapeFor rec) (len : length 
   pub sources-are : sources rec ≡ tabulate (s .srcs) (λ p. getD rec (s .regs + s .dsts + p) 0)
   unfolding sources
   sources-are = rw (← same) (words-at rec (s .srcs) (s .regs + s .dsts) (omega (arith, room)))
+
+-- where there are registers, they stand after the kind; and where a register stands, a field may be any register
+test : (p : Shape → Bool) → T (each p (bare ∷ shapes)) → (k : ℕ) → T (p (shapeOf k))
+unfolding shapeOf each
+test p h k = each-at p shapes bare (and-right (p bare) _ h) (and-left (p bare) _ h) k
+
+pub regs-after-kind : (k : ℕ) → shapeOf k .dsts + shapeOf k .srcs ≤ shapeOf k .regs * 8
+unfolding each
+regs-after-kind k = rule (λ s. s .dsts + s .srcs) (λ s. s .regs * 8) tt k
+
+is-register : Shape → ℕ → Bool
+is-register s p = leb (s .regs) p && ltb p (s .regs + (s .dsts + s .srcs))
+
+any-register : Shape → Bool
+unfolding is-register
+any-register s = allBelow 8 (λ p. cond (is-register s p) (eqb (getD (s .most) p 0) reg) true)
+
+pub register-limit : (k p : ℕ) → shapeOf k .regs ≤ p → p < shapeOf k .regs + (shapeOf k .dsts + shapeOf k .srcs)
+    → getD (shapeOf k .most) p 0 ≡ reg
+unfolding any-register is-register each allBelow
+register-limit k p h l =
+    let s = shapeOf k in
+    let t = true-of (any-register s) (test any-register tt k) in
+    let f = all-at (λ q. cond (is-register s q) (eqb (getD (s .most) q 0) reg) true) 8 p t (omega (arith, regs-in-record k)) in
+    eqb-true _ reg (rw (le-leb (s .regs) p h, lt-ltb p (s .regs + (s .dsts + s .srcs)) l) at f)
+  where
+    true-of : (b : Bool) → T b → b ≡ true
+    true-of true q = refl
+    true-of false q = absurd q
+
+-- LoadArgs has no register words
+pub args-bare : shapeOf loadArgs .regs + (shapeOf loadArgs .dsts + shapeOf loadArgs .srcs) ≡ 0
+unfolding shapeOf
+args-bare = refl
+
+-- a rule of the rows by their kinds
+each-from : (ℕ → Shape → Bool) → ℕ → List Shape → Bool
+each-from p n [] = true
+each-from p n (x ∷ l) = p n x && each-from p (suc n) l
+
+each-from-at : (p : ℕ → Shape → Bool) (n : ℕ) (l : List Shape) (d : Shape) → T (each-from p n l) → (k : ℕ) → k < length l → T (p (k + n) (getD l k d))
+unfolding each-from
+each-from-at p n [] d h k i = absurd (omega arith)
+each-from-at p n (x ∷ l) d h zero i = rw zero-add (and-left (p n x) (each-from p (suc n) l) h)
+each-from-at p n (x ∷ l) d h (suc k) i =
+    rw (suc-add, ← (add-suc k n)) (each-from-at p (suc n) l d (and-right (p n x) (each-from p (suc n) l) h) k (omega arith))
+
+is-args : Action → Bool
+is-args action.LoadArgs = true
+is-args action.Mov = false
+is-args action.Load = false
+is-args action.Save = false
+is-args action.LoadComplex = false
+is-args action.SaveComplex = false
+is-args action.Clear = false
+is-args action.Other = false
+
+-- only LoadArgs names pairs
+pub args-kind : (k : ℕ) → shapeOf k .action ≡ action.LoadArgs → k ≡ loadArgs
+unfolding shapeOf is-args each-from
+args-kind k e = go (decLt k 21)
+  where
+    p : ℕ → Shape → Bool
+    p n s = cond (is-args (s .action)) (eqb n loadArgs) true
+
+    go : Dec (k < 21) → k ≡ loadArgs
+    go (yes h) =
+        let t = each-from-at p 0 shapes bare tt k h in
+        let f : T (eqb (k + 0) loadArgs) = rw e at t in
+        rw (← (add-zero k)) (eqb→eq (k + 0) loadArgs f)
+    go (no h) =
+        let q : 21 ≤ k = omega (arith, h) in
+        let d = List·getD-eq-default shapes bare q in
+        let f : action.Other ≡ action.LoadArgs = sym (ap (λ (s : Shape). s .action) d) ∙ e in
+        let z : _≡_ {A = ℕ} 0 1 = cc in
+        absurd (omega arith)

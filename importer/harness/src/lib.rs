@@ -3,6 +3,8 @@
 
 pub mod answers;
 pub mod damage;
+pub mod dozen;
+pub mod kinds;
 pub mod limits;
 pub mod lists;
 pub mod questions;
@@ -13,6 +15,7 @@ pub mod roles;
 pub mod run;
 pub mod settings;
 pub mod ten;
+pub mod theorem;
 pub mod vectors;
 
 /// With fewer lists than this, a test could miss a case that it counts.

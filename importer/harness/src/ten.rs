@@ -1,5 +1,6 @@
 //! The table of ten: args 0, not complex.
 
+use crate::kinds::{bi, label, load, load_const, mov, save, MEM, STACK};
 use crate::lists::List;
 use crate::record::Record;
 use crate::settings::Settings;
@@ -19,33 +20,6 @@ pub struct Case {
 
 use Outcome::*;
 
-const MEM: u32 = 1;
-const STACK: u32 = 0;
-
-fn load_const(dst: u32, idx: u32) -> Record {
-    [9, dst, idx, 0, 0, 0, 0, 0]
-}
-
-fn load(dst: u32, space: u32, index: u32) -> Record {
-    [5, dst, space, index, 0, 0, 0, 0]
-}
-
-fn save(src: u32, space: u32, index: u32) -> Record {
-    [6, src, space, index, 0, 0, 0, 0]
-}
-
-fn plus(dst: u32, s1: u32, s2: u32) -> Record {
-    [3, 0, dst, s1, s2, 0, 0, 0]
-}
-
-fn mov(dst: u32, s1: u32) -> Record {
-    [4, dst, s1, 0, 0, 0, 0, 0]
-}
-
-fn label(number: u32) -> Record {
-    [15, number, 0, 0, 0, 0, 0, 0]
-}
-
 fn case(name: &'static str, count_regs: u32, records: &[Record], outcome: Outcome) -> Case {
     let settings = Settings { count_regs, ..Settings::default() };
     let list = List { settings, table: Vec::new(), words: records.concat() };
@@ -64,8 +38,8 @@ fn f() -> Vec<Record> {
 }
 
 pub fn cases() -> Vec<Case> {
-    let d = [load(0, MEM, 0), load(1, MEM, 0), plus(0, 0, 1), save(0, MEM, 1)];
-    let d_left = vec![load(0, MEM, 0), plus(1, 0, 0), save(1, MEM, 1)];
+    let d = [load(0, MEM, 0), load(1, MEM, 0), bi(0, 0, 0, 1), save(0, MEM, 1)];
+    let d_left = vec![load(0, MEM, 0), bi(0, 1, 0, 0), save(1, MEM, 1)];
     let e = [load_const(0, 1), mov(1, 0), save(1, MEM, 0)];
     let e_left = vec![load_const(0, 1), save(0, MEM, 0)];
     let g = [load_const(0, 0), label(7), save(0, MEM, 0)];

@@ -1,0 +1,20 @@
+-- The theorems about the definitions, and the laws that the code's proofs cite.
+pub mod Arm
+pub mod Cases
+pub mod Given
+pub mod Going
+pub mod Lengths
+pub mod Lists
+pub mod Members
+pub mod NeverEmpty
+pub mod Pigeon
+pub mod Pool
+pub mod Preserved
+pub mod ReadSet
+pub mod Reduced
+pub mod Runs
+pub mod Settle
+pub mod Steps
+pub mod Sim
+pub mod Choice
+pub mod Create

@@ -1,0 +1,113 @@
+-- Document 01, section 5: the plain machine for demand 3.
+use Prim.Native.Nat.{ℕ, zero, suc, _+_, _<_, _≤_, _^_}
+use mathlib.Core.Bool.{Bool, true, false, cond, _&&_, _||_, not}
+use mathlib.Core.List.{List, [], _∷_}
+use mathlib.Core.Path.{_≡_}
+use lib.Dec.{leb, eqb}
+use lib.ListN.{getD}
+use Rattle.mir.specs.declared.config.Settings.{Settings}
+use Rattle.mir.specs.declared.questions.Verdict.the-variants.{Passed}
+use Rattle.mir.specs.Folds.{allBelow}
+use Rattle.mir.specs.Questions.{refusal}
+use Rattle.mir.specs.Records.{records, recordAt, wordAt, fixedMark}
+
+-- a word of 64 bits
+pub record Word : Type 0 where
+  pub number : ℕ
+  pub fits : number < 2 ^ 64
+
+-- the test of IfElse: a condition's word picks true_val if it isn't 0
+abbrev pub isTrue : Word → Bool
+isTrue w = not (eqb (w .number) 0)
+
+-- arbitrary meanings of the operations: a word of an operation and its operand words
+pub record Meaning : Type 0 where
+  pub uni : ℕ → Word → Word
+  pub bi : ℕ → Word → Word → Word
+  pub fused : ℕ → Word → Word → Word → Word
+
+-- registers by their word, cells by space and index, constants by index; a run that has met End is over
+pub record State : Type 0 where
+  pub reg : ℕ → Word
+  pub cell : ℕ → ℕ → Word
+  pub const : ℕ → Word
+  pub over : Bool
+
+abbrev pub write : ℕ → Word → State → State
+write w v st = record { reg = λ r. cond (eqb r w) v (st .reg r); cell = st .cell; const = st .const; over = st .over }
+
+abbrev pub store : ℕ → ℕ → Word → State → State
+store space index v st =
+    record {
+      reg = st .reg;
+      cell = λ p i. cond (eqb p space && eqb i index) v (st .cell p i);
+      const = st .const;
+      over = st .over;
+    }
+
+abbrev pub finish : State → State
+finish st = record { reg = st .reg; cell = st .cell; const = st .const; over = true }
+
+abbrev pub stay : State → State
+stay st = st
+
+-- what a record does, by its kind; w1 to w5 are its words. The kinds that are not scalar and straight-line have no
+-- meaning here
+abbrev pub effects : Meaning → (w1 w2 w3 w4 w5 : ℕ) → List (State → State)
+effects m w1 w2 w3 w4 w5 =
+    stay  -- 0 Nop
+    ∷ finish  -- 1 End
+    ∷ (λ st. write w2 (m .uni w1 (st .reg w3)) st)  -- 2 Uni
+    ∷ (λ st. write w2 (m .bi w1 (st .reg w3) (st .reg w4)) st)  -- 3 Bi
+    ∷ (λ st. write w1 (st .reg w2) st)  -- 4 Mov
+    ∷ (λ st. write w1 (st .cell w2 w3) st)  -- 5 Load
+    ∷ (λ st. store w2 w3 (st .reg w1) st)  -- 6 Save
+    ∷ stay  -- 7 LoadComplex
+    ∷ stay  -- 8 SaveComplex
+    ∷ (λ st. write w1 (st .const w2) st)  -- 9 LoadConst
+    ∷ stay  -- 10 LoadArgs
+    ∷ stay  -- 11 SaveArgs
+    ∷ stay  -- 12 Call
+    ∷ (λ st. write w2 (m .fused w1 (st .reg w3) (st .reg w4) (st .reg w5)) st)  -- 13 Fused
+    ∷ (λ st. write w1 (cond (isTrue (st .cell w4 w5)) (st .reg w2) (st .reg w3)) st)  -- 14 IfElse
+    ∷ stay  -- 15 Label
+    ∷ stay  -- 16 Branch
+    ∷ stay  -- 17 BranchIf
+    ∷ (λ st. write w2 (m .bi w1 (st .reg w3) (st .cell w4 w5)) st)  -- 18 LoadMath
+    ∷ (λ st. write w2 (m .bi w1 (st .reg w3) (st .const w4)) st)  -- 19 LoadConstMath
+    ∷ []
+
+unfoldable pub effect : Meaning → List ℕ → State → State
+effect m rec =
+    getD (effects m (wordAt rec 1) (wordAt rec 2) (wordAt rec 3) (wordAt rec 4) (wordAt rec 5)) (wordAt rec 0) stay
+
+-- records run from the first on, each on the state that the one before it left, until End or the last record
+unfoldable pub turn : Meaning → List ℕ → State → State
+turn m rec st = cond (st .over) st (effect m rec st)
+
+unfoldable pub runTo : Meaning → List ℕ → State → ℕ → State
+runTo m list st zero = st
+runTo m list st (suc i) = turn m (recordAt list i) (runTo m list st i)
+
+unfoldable pub run : Meaning → List ℕ → State → State
+run m list st = runTo m list st (records list)
+
+-- ---- the claim's terms
+
+-- scalar straight-line kinds: 0 to 6, 9, 13, 14, 18, 19
+abbrev pub isScalar : ℕ → Bool
+isScalar kind = leb kind 6 || eqb kind 9 || eqb kind 13 || eqb kind 14 || eqb kind 18 || eqb kind 19
+
+unfoldable pub AllScalar : List ℕ → Type 0
+AllScalar list = allBelow (records list) (λ i. isScalar (wordAt (recordAt list i) 0)) ≡ true
+
+-- the list passes section 7, with these settings and this table and with buffers that are long enough
+unfoldable pub Passing : Settings → List ℕ → List ℕ → Type 0
+Passing s list table = refusal true s list table ≡ Passed
+
+-- two runs end equal: the named registers, all Mem and Param cells, and the Stack cells below the fixed mark
+pub record EndsEqual (s : Settings) (a b : State) : Type 0 where
+  pub named : (r : ℕ) → 256 ≤ r → r ≤ 259 → a .reg r ≡ b .reg r
+  pub mem : (i : ℕ) → a .cell 1 i ≡ b .cell 1 i
+  pub param : (i : ℕ) → a .cell 2 i ≡ b .cell 2 i
+  pub stack : (i : ℕ) → i < fixedMark s → a .cell 0 i ≡ b .cell 0 i
