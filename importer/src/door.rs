@@ -4,72 +4,19 @@
 //! answers in one 64-bit word. Bits 32 to 55 hold the number of the question that refused the list,
 //! 0 for none; bits 0 to 31 then hold the record's index.
 
-extern "C" {
-    fn rudzaviks_used_registers(
-        list: *const u32,
-        list_len: usize,
-        table: *const u32,
-        table_len: usize,
-        count_regs: u32,
-        compress: u32,
-    ) -> u64;
+mod beside;
+mod optimize;
 
-    fn rudzaviks_populate_labels(
-        list: *const u32,
-        list_len: usize,
-        table: *const u32,
-        table_len: usize,
-        count_regs: u32,
-        label: u32,
-    ) -> u64;
-}
+pub use beside::{
+    populate_labels, populate_labels_word, used_registers, used_registers_word, Place, Used,
+};
+pub use optimize::{optimize, optimize_word, Answer, Buffers, Counts, Lent, Settings};
 
 /// The question that was answered no, and the index of the record that it was put to.
 #[derive(Clone, Copy, Debug, PartialEq, Eq)]
 pub struct Refusal {
     pub number: u32,
     pub index: u32,
-}
-
-/// The registers that a list uses.
-#[derive(Clone, Copy, Debug, PartialEq, Eq)]
-pub enum Used {
-    /// One bit for each register, and how many there are.
-    Registers {
-        mask: u32,
-        count: u32,
-    },
-    Refused(Refusal),
-}
-
-/// Where a list has a label.
-#[derive(Clone, Copy, Debug, PartialEq, Eq)]
-pub enum Place {
-    /// The index of the last Label with the number.
-    At(u32),
-    Absent,
-    Refused(Refusal),
-}
-
-impl Used {
-    /// The meaning of a word that the door answers.
-    pub fn from_word(word: u64) -> Used {
-        match refusal(word) {
-            Some(refusal) => Used::Refused(refusal),
-            None => Used::Registers { mask: low(word), count: (word >> 56) as u32 },
-        }
-    }
-}
-
-impl Place {
-    /// The meaning of a word that the door answers.
-    pub fn from_word(word: u64) -> Place {
-        match refusal(word) {
-            Some(refusal) => Place::Refused(refusal),
-            None if low(word) == u32::MAX => Place::Absent,
-            None => Place::At(low(word)),
-        }
-    }
 }
 
 fn low(word: u64) -> u32 {
@@ -79,62 +26,4 @@ fn low(word: u64) -> u32 {
 fn refusal(word: u64) -> Option<Refusal> {
     let number = (word >> 32) as u32 & 0x00ff_ffff;
     (number != 0).then_some(Refusal { number, index: low(word) })
-}
-
-/// The registers that the list writes, and BranchIf's conditions; every one of 32 if `compress`.
-pub fn used_registers(list: &[u32], table: &[u32], count_regs: u32, compress: bool) -> Used {
-    Used::from_word(used_registers_word(list, table, count_regs, u32::from(compress)))
-}
-
-/// The place of the last Label with the number.
-pub fn populate_labels(list: &[u32], table: &[u32], count_regs: u32, label: u32) -> Place {
-    Place::from_word(populate_labels_word(list, table, count_regs, label))
-}
-
-/// `used_registers` as the door answers it; `compress` is set if not 0.
-pub fn used_registers_word(list: &[u32], table: &[u32], count_regs: u32, compress: u32) -> u64 {
-    // SAFETY: both slices are lent for the call, with their lengths; the door only reads them.
-    unsafe {
-        rudzaviks_used_registers(
-            list.as_ptr(),
-            list.len(),
-            table.as_ptr(),
-            table.len(),
-            count_regs,
-            compress,
-        )
-    }
-}
-
-/// `populate_labels` as the door answers it.
-pub fn populate_labels_word(list: &[u32], table: &[u32], count_regs: u32, label: u32) -> u64 {
-    // SAFETY: both slices are lent for the call, with their lengths; the door only reads them.
-    unsafe {
-        rudzaviks_populate_labels(
-            list.as_ptr(),
-            list.len(),
-            table.as_ptr(),
-            table.len(),
-            count_regs,
-            label,
-        )
-    }
-}
-
-#[cfg(test)]
-mod tests {
-    use super::*;
-
-    #[test]
-    fn words_have_their_meaning() {
-        let refusal = Refusal { number: 6, index: 9 };
-        assert_eq!(Used::from_word((6 << 32) | 9), Used::Refused(refusal));
-        assert_eq!(Place::from_word((6 << 32) | 9), Place::Refused(refusal));
-        let all = Used::Registers { mask: u32::MAX, count: 32 };
-        assert_eq!(Used::from_word((32 << 56) | 0xffff_ffff), all);
-        assert_eq!(Used::from_word(0), Used::Registers { mask: 0, count: 0 });
-        assert_eq!(Place::from_word(0), Place::At(0));
-        assert_eq!(Place::from_word(65_535), Place::At(65_535));
-        assert_eq!(Place::from_word(0xffff_ffff), Place::Absent);
-    }
 }

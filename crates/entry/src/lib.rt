@@ -1,10 +1,20 @@
 // The C doors: each takes word slices and numbers, and answers in one 64-bit word.
+ghost use Prim.Native.Nat.{_≤_};
+ghost use mathlib.Core.List.{[]};
 ghost use mathlib.Core.Path.{_≡_};
-ghost use Rattle.entry.specs.Doors.{FewUsed, flag, refusalWord, doorWord, usedWord, placeWord};
+ghost use lib.ListN.{length};
+ghost use Rattle.allocator.specs.Optimize.{lent, over};
+ghost use Rattle.entry.specs.Doors.{FewUsed, OptimizeDoor, flag, settingsOf, refusalWord, doorWord, usedWord, placeWord, recordsWord, valuesIn};
+ghost use Rattle.mir.specs.Answers.{unless};
 ghost use Rattle.mir.specs.Beside.{usedRegisters, usedReport, populateLabels, placeReport};
+use allocator::Answer;
+use allocator::Counts;
+use allocator::optimize;
 use mir::Place;
 use mir::Used;
 use mir::config::Settings;
+use mir::questions::Verdict;
+use mir::questions::check;
 
 // A refusal: the question's number above bit 32, the record's index below it.
 fn refusal_word(number: u32, index: u32) -> u64
@@ -72,4 +82,71 @@ pub extern "C" fn rudzaviks_populate_labels(
 {
     let settings = settings_beside(count_regs, 0);
     place_word(mir::populate_labels(list, table, settings, label))
+}
+
+// The settings, from numbers; a flag is set if its word isn't 0.
+fn settings_of(count_regs: u32, args: u32, complex: u32, arm: u32, compress: u32) -> Settings
+    ensures { λ r. ⌜ r ≡ settingsOf «count_regs» args complex arm compress ⌝ }
+{
+    Settings {
+        count_regs,
+        args,
+        complex: complex != 0,
+        arm: arm != 0,
+        compress: compress != 0,
+    }
+}
+
+// The seven counts at the start of a slice.
+fn write_counts(c: Counts, counts: &mut [u32])
+    requires { ⌜ 7 ≤ length (now counts) ⌝ }
+    ensures { λ _. ⌜ now (counts .exit) ≡ over (valuesIn c) (now (counts .entry)) ⌝ }
+{
+    counts[0] = c.records;
+    counts[1] = c.statics;
+    counts[2] = c.members;
+    counts[3] = c.nops;
+    counts[4] = c.loads;
+    counts[5] = c.moves;
+    counts[6] = c.saves;
+}
+
+fn verdict_word(verdict: Verdict) -> u64
+    ensures { λ r. ⌜ r ≡ doorWord recordsWord (unless verdict []) ⌝ }
+{
+    match verdict {
+        Verdict::Passed => 0,
+        Verdict::Refused(number, index) => refusal_word(number, index),
+    }
+}
+
+// `optimize`: the number of records that the reduced list has, or a refusal; the seven counts go into `counts`.
+#[no_mangle]
+pub extern "C" fn rudzaviks_optimize(
+    list: &[u32],
+    table: &[u32],
+    count_regs: u32,
+    args: u32,
+    complex: u32,
+    arm: u32,
+    compress: u32,
+    out: &mut [u32],
+    colours: &mut [u32],
+    ends: &mut [u32],
+    set: &mut [u32],
+    counts: &mut [u32],
+) -> u64
+    ensures { λ r. ⌜ OptimizeDoor (settingsOf «count_regs» args complex arm compress) (now (list .entry)) (now (table .entry)) (lent (now (out .entry)) (now (colours .entry)) (now (ends .entry)) (now (set .entry))) (now (counts .entry)) (lent (now (out .exit)) (now (colours .exit)) (now (ends .exit)) (now (set .exit))) (now (counts .exit)) r ⌝ }
+{
+    let settings = settings_of(count_regs, args, complex, arm, compress);
+    if counts.len() < 7 {
+        return verdict_word(check(list, table, settings, false));
+    }
+    match optimize(list, table, settings, out, colours, ends, set) {
+        Answer::Reduced(c) => {
+            write_counts(c, counts);
+            c.records as u64
+        }
+        Answer::Refused(number, index) => refusal_word(number, index),
+    }
 }

@@ -163,6 +163,14 @@ pub record ListPasses (s : Settings) (list table : List ℕ) : Type 0 where
   pub sized : Sized (length list) (length table)
   pub each : (i : ℕ) → i < records list → Passes table (s .«count_regs») (recordAt list i) (regsTo list i)
 
+-- questions 1 to 4 answered yes
+heads : (a b c d : Bool) → firstNo ((1, a) ∷ (2, b) ∷ (3, c) ∷ (4, d) ∷ []) ≡ 0 → (a ≡ true) × ((b ≡ true) × ((c ≡ true) × (d ≡ true)))
+heads true true true true e = (refl, (refl, (refl, refl)))
+heads true true true false e = absurd (omega arith)
+heads true true false d e = absurd (omega arith)
+heads true false c d e = absurd (omega arith)
+heads false b c d e = absurd (omega arith)
+
 pub list-passes : (room : Bool) (s : Settings) (list table : List ℕ) → refusal room s list table ≡ Passed → ListPasses s list table
 unfolding refusal recordRefusal fewRegisters fewArgs
 list-passes room s list table h =
@@ -172,12 +180,15 @@ list-passes room s list table h =
     record {
       few = leb-true n maxRegs (q .0);
       args = leb-true (s .args) 65535 (q .1 .0);
-      sized = well-sized (length list) (length table) (q .1 .1);
+      sized = well-sized (length list) (length table) (q .1 .1 .0);
       each = λ i l. record-passes table n (recordAt list i) (regsTo list i) (refusal-none (recordBy table n list) (records list) i (p .1) l);
     }
-  where
-    heads : (a b c d : Bool) → firstNo ((1, a) ∷ (2, b) ∷ (3, c) ∷ (4, d) ∷ []) ≡ 0 → (a ≡ true) × ((b ≡ true) × (c ≡ true))
-    heads true true true d e = (refl, (refl, refl))
-    heads true true false d e = absurd (omega arith)
-    heads true false c d e = absurd (omega arith)
-    heads false b c d e = absurd (omega arith)
+
+pub room-passes : (room : Bool) (s : Settings) (list table : List ℕ) → refusal room s list table ≡ Passed → room ≡ true
+unfolding refusal
+room-passes room s list table h =
+    let a = fewRegisters (s .«count_regs») in
+    let b = fewArgs (s .args) in
+    let c = wellSized (length list) (length table) in
+    let p = or-else-passed (refusedAt (firstNo ((1, a) ∷ (2, b) ∷ (3, c) ∷ (4, room) ∷ [])) 0) (recordRefusal table (s .«count_regs») list) h in
+    heads a b c room (refused-at-passed _ 0 (p .0)) .1 .1 .1

@@ -5,7 +5,7 @@ use mathlib.Core.Bool.{Bool, true, false, cond, _&&_}
 use mathlib.Core.List.{List, [], _∷_}
 use lib.Dec.{T, leb, ltb, eqb, leb→le, eqb→eq}
 use borrow.Author.Tests.{le-leb, lt-ltb, eqb-true}
-use mathlib.Core.Path.{_≡_, refl, sym, ap, _∙_}
+use mathlib.Core.Path.{_≡_, refl, sym, ap, subst, _∙_}
 use native.Mathlib.Nat.{zero-add, add-zero, suc-add, add-suc}
 use native.Mathlib.Decide.{decLt}
 use native.Mathlib.Omega.{arith}
@@ -118,7 +118,7 @@ unfolding shapeOf
 args-bare = refl
 
 -- a rule of the rows by their kinds
-each-from : (ℕ → Shape → Bool) → ℕ → List Shape → Bool
+unfoldable pub each-from : (ℕ → Shape → Bool) → ℕ → List Shape → Bool
 each-from p n [] = true
 each-from p n (x ∷ l) = p n x && each-from p (suc n) l
 
@@ -128,6 +128,17 @@ each-from-at p n [] d h k i = absurd (omega arith)
 each-from-at p n (x ∷ l) d h zero i = rw zero-add (and-left (p n x) (each-from p (suc n) l) h)
 each-from-at p n (x ∷ l) d h (suc k) i =
     rw (suc-add, ← (add-suc k n)) (each-from-at p (suc n) l d (and-right (p n x) (each-from p (suc n) l) h) k (omega arith))
+
+-- what holds of each row and its kind, and of the shape past the end with any kind, holds of each kind's shape
+pub by-kind : (p : ℕ → Shape → Bool) → T (each-from p 0 shapes) → ((k : ℕ) → T (p k bare)) → (k : ℕ) → T (p k (shapeOf k))
+unfolding shapeOf
+by-kind p h b k = go (decLt k 21)
+  where
+    go : Dec (k < 21) → T (p k (getD shapes k bare))
+    go (yes l) = subst (λ n. T (p n (getD shapes k bare))) (add-zero k) (each-from-at p 0 shapes bare h k l)
+    go (no l) =
+        let q : 21 ≤ k = omega (arith, l) in
+        rw (List·getD-eq-default shapes bare q) (b k)
 
 is-args : Action → Bool
 is-args action.LoadArgs = true
@@ -141,20 +152,31 @@ is-args action.Other = false
 
 -- only LoadArgs names pairs
 pub args-kind : (k : ℕ) → shapeOf k .action ≡ action.LoadArgs → k ≡ loadArgs
-unfolding shapeOf is-args each-from
-args-kind k e = go (decLt k 21)
-  where
-    p : ℕ → Shape → Bool
-    p n s = cond (is-args (s .action)) (eqb n loadArgs) true
+unfolding is-args each-from
+args-kind k e =
+    let t = by-kind (λ n s. cond (is-args (s .action)) (eqb n loadArgs) true) tt (λ n. tt) k in
+    let f : T (eqb k loadArgs) = rw e at t in
+    eqb→eq k loadArgs f
 
-    go : Dec (k < 21) → k ≡ loadArgs
-    go (yes h) =
-        let t = each-from-at p 0 shapes bare tt k h in
-        let f : T (eqb (k + 0) loadArgs) = rw e at t in
-        rw (← (add-zero k)) (eqb→eq (k + 0) loadArgs f)
-    go (no h) =
-        let q : 21 ≤ k = omega (arith, h) in
-        let d = List·getD-eq-default shapes bare q in
-        let f : action.Other ≡ action.LoadArgs = sym (ap (λ (s : Shape). s .action) d) ∙ e in
-        let z : _≡_ {A = ℕ} 0 1 = cc in
-        absurd (omega arith)
+-- an action of two halves
+abbrev pub isComplex : Action → Bool
+isComplex action.LoadComplex = true
+isComplex action.SaveComplex = true
+isComplex action.Mov = false
+isComplex action.Load = false
+isComplex action.Save = false
+isComplex action.LoadArgs = false
+isComplex action.Clear = false
+isComplex action.Other = false
+
+-- only kinds 7 and 8 have two halves, and their location stands at 3
+pub complex-kind : (k : ℕ) → isComplex (shapeOf k .action) ≡ true → ((leb 7 k && leb k 8) ≡ true) × (shapeOf k .loc ≡ 3)
+unfolding each-from
+complex-kind k e =
+    let t = by-kind (λ n s. cond (isComplex (s .action)) (leb 7 n && leb n 8 && eqb (s .loc) 3) true) tt (λ n. tt) k in
+    let f : T (leb 7 k && leb k 8 && eqb (shapeOf k .loc) 3) = rw e at t in
+    (truth (leb 7 k && leb k 8) (and-left (leb 7 k && leb k 8) (eqb (shapeOf k .loc) 3) f), eqb→eq (shapeOf k .loc) 3 (and-right (leb 7 k && leb k 8) (eqb (shapeOf k .loc) 3) f))
+  where
+    truth : (b : Bool) → T b → b ≡ true
+    truth true q = refl
+    truth false q = absurd q

@@ -19,7 +19,7 @@ pub enum Current {
 }
 
 // How many statics a destination makes.
-fn count_static(w: u32) -> u32
+pub fn count_static(w: u32) -> u32
     ensures { λ r. ⌜ r ≡ one w ⌝ }
 {
     if w < 256 { 1 } else { 0 }

@@ -36,6 +36,18 @@ pub struct Shape {
 }
 
 // Kinds that the code names.
+pub const NOP: u32 = 0;
+
+pub const MOV: u32 = 4;
+
+pub const LOAD: u32 = 5;
+
+pub const SAVE: u32 = 6;
+
+pub const LOAD_COMPLEX: u32 = 7;
+
+pub const SAVE_COMPLEX: u32 = 8;
+
 pub const LOAD_ARGS: u32 = 10;
 
 pub const CALL: u32 = 12;

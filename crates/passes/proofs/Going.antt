@@ -114,7 +114,7 @@ source-below s list table passes i inside w m e =
 
 -- a choice with a pool is not empty
 module _ (n i : ℕ) where
-  pool-not-empty : (h : Held) (st : Coloring) → HasPool n i h st → choose n i h (st .allocs) ≡ Empty → ⊥
+  pub pool-not-empty : (h : Held) (st : Coloring) → HasPool n i h st → choose n i h (st .allocs) ≡ Empty → ⊥
   pool-not-empty h st p e =
       ⊎-elim
       (λ (f : isFound (choose n i h (st .allocs)) ≡ true).

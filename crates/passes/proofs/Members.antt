@@ -94,7 +94,7 @@ joined-counted ts ms ls = omega (arith, joined-more ms ls, hits-more ts ms (join
 
 -- ---- the pairs of the table
 
-pairs-length : (table : List ℕ) (first n : ℕ) → length (pairsFrom table first n) ≡ n
+pub pairs-length : (table : List ℕ) (first n : ℕ) → length (pairsFrom table first n) ≡ n
 unfolding pairsFrom
 pairs-length table first zero = refl
 pairs-length table first (suc n) = ap suc (pairs-length table (suc first) n)
@@ -114,7 +114,7 @@ pairs-in table from m first (suc n) a b l k =
     (λ (q : InLocs l (pairsFrom table (suc first) n)). pairs-in table from m (suc first) n (omega arith) (omega arith) l q) k
 
 -- a LoadArgs that passes question 6 names pairs of the table
-args-inside : (table rec : List ℕ) → wordAt rec 0 ≡ loadArgs → fieldsFit table rec ≡ true → wordAt rec 1 + wordAt rec 2 ≤ length table / 2
+pub args-inside : (table rec : List ℕ) → wordAt rec 0 ≡ loadArgs → fieldsFit table rec ≡ true → wordAt rec 1 + wordAt rec 2 ≤ length table / 2
 unfolding fieldsFit pairsFit
 args-inside table rec e h =
     let q = and-both (wordsFit rec (shapeFor rec .most)) _ h .1 in

@@ -12,6 +12,18 @@ const TABLE: usize = 1024;
 
 const LIST: usize = 4096;
 
+// The longest slices that are lent with a stored case: what the above ask for, and four words more.
+const OUT: usize = 4100;
+
+const STATICS: usize = 1028;
+
+const SET: usize = 3076;
+
+const COUNTS: usize = 11;
+
+// What every word of a lent slice is at first.
+const FILL: u32 = 2_779_096_485;
+
 fn wide(x: u8) -> u32
     ensures { λ r. ⌜ r ≤ 255 ⌝ }
 {
@@ -79,6 +91,102 @@ fn answer(op: u32, s: Settings, label: u32, list: &[u32], table: &[u32]) -> u64 
     }
 }
 
+// The next word as a length, but at most `most`.
+fn length_to(most: usize) -> usize
+    ensures { λ r. ⌜ r ≤ most ⌝ }
+{
+    let n = word() as usize;
+    if n < most {
+        return n;
+    }
+    most
+}
+
+// Whether `got` starts with the next words, their number first, and holds FILL after them.
+fn starts(got: &[u32]) -> bool {
+    let n = word() as usize;
+    let mut same = n <= got.len();
+    let mut i = 0;
+    while i < got.len() {
+        let owed = if i < n { word() } else { FILL };
+        if got[i] != owed {
+            same = false;
+        }
+        i += 1;
+    }
+    same
+}
+
+// Whether `optimize` answers `owed`, and leaves the lent slices as they are stored.
+fn reduces(
+    s: Settings,
+    list: &[u32],
+    table: &[u32],
+    owed: u64,
+    out: &mut [u32],
+    colours: &mut [u32],
+    ends: &mut [u32],
+    set: &mut [u32],
+    counts: &mut [u32],
+) -> bool {
+    let got = entry::rudzaviks_optimize(
+        list,
+        table,
+        s.count_regs,
+        s.args,
+        s.complex,
+        s.arm,
+        s.compress,
+        out,
+        colours,
+        ends,
+        set,
+        counts,
+    );
+    let mut same = got == owed;
+    same = starts(out) && same;
+    same = starts(colours) && same;
+    same = starts(ends) && same;
+    same = starts(set) && same;
+    starts(counts) && same
+}
+
+// The same, with slices of the stored lengths.
+fn replay_optimize(s: Settings, list: &[u32], table: &[u32], owed: u64) -> bool {
+    let mut out = [FILL; OUT];
+    let mut colours = [FILL; STATICS];
+    let mut ends = [FILL; STATICS];
+    let mut set = [FILL; SET];
+    let mut counts = [FILL; COUNTS];
+    let o = length_to(OUT);
+    let c = length_to(STATICS);
+    let e = length_to(STATICS);
+    let m = length_to(SET);
+    let n = length_to(COUNTS);
+    reduces(
+        s,
+        list,
+        table,
+        owed,
+        &mut out[..o],
+        &mut colours[..c],
+        &mut ends[..e],
+        &mut set[..m],
+        &mut counts[..n],
+    )
+}
+
+// Whether the answer is the stored one, which comes next.
+fn agrees(op: u32, s: Settings, label: u32, list: &[u32], table: &[u32]) -> bool {
+    let low = word() as u64;
+    let high = word() as u64;
+    let owed = high * 4_294_967_296 + low;
+    if op == 3 {
+        return replay_optimize(s, list, table, owed);
+    }
+    answer(op, s, label, list, table) == owed
+}
+
 // Whether the next case's answer is the stored one.
 fn replay() -> bool {
     let op = word();
@@ -94,9 +202,7 @@ fn replay() -> bool {
     if !words(&mut list, n) {
         return false;
     }
-    let low = word() as u64;
-    let high = word() as u64;
-    answer(op, s, label, &list[..n], &table[..pairs]) == high * 4_294_967_296 + low
+    agrees(op, s, label, &list[..n], &table[..pairs])
 }
 
 // Replays case `i`, names it where it differs, and answers how many cases differed.

@@ -6,8 +6,9 @@
 
 use oracle::Reg;
 
+use crate::lent::{has_room, Lent};
 use crate::lists::List;
-use crate::questions::{refusal_beside, Refusal};
+use crate::questions::{refusal, refusal_beside, Refusal};
 use crate::run;
 
 /// Stands in bits 0 to 31 where no Label has the number.
@@ -40,4 +41,15 @@ pub fn populate_labels(list: &List, labels: &[u32]) -> Vec<u64> {
     mir.populate_labels();
     let place = |label: &u32| mir.labels.get(&label.to_string());
     labels.iter().map(|label| place(label).map_or(ABSENT, |index| *index as u64)).collect()
+}
+
+/// The number of records that are left, or a refusal; and the words that the slices, lent with
+/// these lengths, then start with. A refusal puts none there.
+pub fn optimize(list: &List, lengths: [usize; 5]) -> (u64, Lent) {
+    let room = has_room(list, lengths);
+    if let Some(no) = refusal(&list.settings, &list.words, &list.table, room) {
+        return (refused(no), Lent::default());
+    }
+    let reduced = run::reduced(list);
+    (u64::from(reduced.counts()[0]), reduced.lent())
 }

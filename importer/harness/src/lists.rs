@@ -39,7 +39,7 @@ pub struct Taste {
     pub settings: Settings,
     pub records: usize,
     pub pairs: usize,
-    /// How many indexes each space has in use: few, so that locations collide.
+    /// How many indexes each space has in use. With few of them locations collide.
     pub cells: u32,
     /// How many label numbers are in use.
     pub labels: u32,
@@ -74,7 +74,7 @@ impl Taste {
             settings: random_settings(random),
             records: random.between(0, most) as usize,
             pairs,
-            cells: random.between(1, 6),
+            cells: if random.percent(90) { random.between(1, 6) } else { random.between(7, 40) },
             labels: random.between(1, 6),
             named: random.pick(&[0, 5, 10, 50, 90]),
             extreme: random.pick(&[0, 0, 2, 20]),
@@ -230,7 +230,7 @@ impl Maker<'_> {
             return (space, self.random.pick(&[0, u32::MAX - 2, u32::MAX - 1, u32::MAX]));
         }
         let low = match space {
-            0 => self.taste.settings.fixed_mark() - self.taste.cells / 2,
+            0 => self.taste.settings.fixed_mark().saturating_sub(self.taste.cells / 2),
             _ => 0,
         };
         (space, low + self.random.below(self.taste.cells))

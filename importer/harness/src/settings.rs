@@ -18,6 +18,13 @@ impl Settings {
         slots * self.args + 16
     }
 
+    /// The five words, in their order; `set` stands for a flag that is set, and is not 0.
+    pub fn words(&self, set: u32) -> [u32; 5] {
+        let flags = [self.complex, self.arm, self.compress];
+        let [complex, arm, compress] = flags.map(|flag| if flag { set } else { 0 });
+        [self.count_regs, self.args, complex, arm, compress]
+    }
+
     /// The same settings, as the original has them.
     pub fn config(&self) -> Config {
         let complex = if self.complex { COMPLEX } else { 0 };

@@ -2,8 +2,8 @@
 
 use crate::dozen::Named;
 use crate::kinds::{LEFT, MEM, PARAM, RET, RIGHT, STACK, TEMP};
-use crate::lists::List;
 use crate::record::WORDS;
+use crate::reduced::Reduced;
 use crate::roles::{role, words_with, Role, KINDS};
 use crate::run;
 
@@ -31,10 +31,6 @@ const NAMES: [&str; KINDS] = [
     "loadConstMath",
     "complexBi",
 ];
-
-/// Dropped nops, loads, moves and saves. No record changes its kind, so a drop is a record of
-/// these kinds that is missing.
-const DROPS: [&[u32]; 4] = [&[0], &[5, 7], &[4], &[6, 8]];
 
 /// The longest line.
 const WIDTH: usize = 118;
@@ -123,19 +119,10 @@ fn reduced(Named { name, list, .. }: &Named) -> String {
 }
 
 fn account(Named { name, list, .. }: &Named) -> String {
-    let [nops, loads, moves, saves] = dropped(list);
-    let statics = run::statics(list).into_iter().map(|(colour, end)| format!("({colour}, {end})"));
+    let Reduced { dropped: [nops, loads, moves, saves], statics, .. } = run::reduced(list);
+    let statics = statics.into_iter().map(|(colour, end)| format!("({colour}, {end})"));
     let is = format!("counts {nops} {loads} {moves} {saves} ({})", row(statics));
     field(name, "account", &is)
-}
-
-/// How many nops, loads, moves and saves the original drops.
-pub fn dropped(list: &List) -> [usize; 4] {
-    let after = run::optimize(list);
-    let count = |words: &[u32], kinds: &[u32]| {
-        words.chunks_exact(WORDS).filter(|record| kinds.contains(&record[0])).count()
-    };
-    DROPS.map(|kinds| count(&list.words, kinds) - count(&after, kinds))
 }
 
 /// The lists, then the two records of equations.

@@ -1,25 +1,36 @@
 //! Stored answers, for a replay with no Rust at hand.
 //!
 //! All words are 32 bits, little-endian. Word 0 is the number of cases. A case is: the operation (1
-//! used_registers, 2 populate_labels); count_regs, args, complex, arm, compress; the label (0 for
-//! operation 1); the table's length in words and its words; the list's length in words and its
-//! words; the answer's low and high word. Each answer is the original's or the questions', none is
-//! the verified code's.
+//! used_registers, 2 populate_labels, 3 optimize); count_regs, args, complex, arm, compress; the
+//! label (0 where there is none); the table's length in words and its words; the list's length in
+//! words and its words; the answer's low and high word. With operation 3 the lent slices follow:
+//! output, colours, ends, set, counts. First come their five lengths in words. Then comes for each
+//! the number of words that it starts with in the end, and these words; all others are FILL, as
+//! they were. Each answer is the original's or the questions', none is the verified code's.
 
 use crate::damage::damaged;
+use crate::lent::{room, Lent};
 use crate::lists::{any_list, list, List, Taste};
 use crate::random::Random;
 use crate::settings::Settings;
-use crate::{answers, limits, ten};
+use crate::{answers, dozen, limits, ten};
 
 /// The replay's buffers hold this many records and pairs.
 pub const MOST_RECORDS: usize = 512;
 pub const MOST_PAIRS: usize = 512;
 
+/// The lengths of the replay's slices, in words: what these ask for, and four words more.
+pub const MOST_LENT: [usize; 5] = [4100, 1028, 1028, 3076, 11];
+
+/// What every word of a lent slice is at first.
+pub const FILL: u32 = 2_779_096_485;
+
 #[derive(Clone, Debug, PartialEq, Eq)]
 pub enum Operation {
     UsedRegisters,
     PopulateLabels(u32),
+    /// With slices of these lengths.
+    Optimize([usize; 5]),
 }
 
 use Operation::*;
@@ -27,8 +38,8 @@ use Operation::*;
 pub struct Case {
     pub operation: Operation,
     pub list: List,
-    /// The compress flag's word: set if not 0.
-    pub compress: u32,
+    /// The word of a flag that is set: any but 0.
+    pub flag: u32,
 }
 
 impl Case {
@@ -36,6 +47,7 @@ impl Case {
         match self.operation {
             UsedRegisters => answers::used_registers(&self.list),
             PopulateLabels(label) => answers::populate_labels(&self.list, &[label])[0],
+            Optimize(lengths) => answers::optimize(&self.list, lengths).0,
         }
     }
 
@@ -43,18 +55,34 @@ impl Case {
         let (number, label) = match self.operation {
             UsedRegisters => (1, 0),
             PopulateLabels(label) => (2, label),
+            Optimize(_) => (3, 0),
         };
-        let Settings { count_regs, args, complex, arm, .. } = self.list.settings;
-        let (complex, arm) = (u32::from(complex), u32::from(arm));
-        let mut words = vec![number, count_regs, args, complex, arm, self.compress, label];
-        for part in [&self.list.table, &self.list.words] {
-            words.push(part.len() as u32);
-            words.extend(part);
-        }
+        let mut words = vec![number];
+        words.extend(self.list.settings.words(self.flag));
+        words.push(label);
+        add_parts(&mut words, &[&self.list.table, &self.list.words]);
         let answer = self.answer();
         words.extend([answer as u32, (answer >> 32) as u32]);
+        if let Optimize(lengths) = self.operation {
+            words.extend(lengths.map(|length| length as u32));
+            let starts = answers::optimize(&self.list, lengths).1;
+            add_parts(&mut words, &starts.each_ref().map(Vec::as_slice));
+        }
         words
     }
+}
+
+/// Each part's length and words.
+fn add_parts(words: &mut Vec<u32>, parts: &[&[u32]]) {
+    for part in parts {
+        words.push(part.len() as u32);
+        words.extend(*part);
+    }
+}
+
+/// Slices as the replay lends them.
+pub fn filled(lengths: [usize; 5]) -> Lent {
+    lengths.map(|length| vec![FILL; length])
 }
 
 struct Maker {
@@ -64,9 +92,8 @@ struct Maker {
 
 impl Maker {
     fn add(&mut self, list: List, operation: Operation) {
-        let set = self.random.pick(&[1, 2, 256, 1 << 31, u32::MAX]);
-        let compress = if list.settings.compress { set } else { 0 };
-        self.cases.push(Case { operation, list, compress });
+        let flag = self.random.pick(&[1, 2, 256, 1 << 31, u32::MAX]);
+        self.cases.push(Case { operation, list, flag });
     }
 
     /// The list for one of the operations: with a label that it has, or with one that it may lack.
@@ -84,16 +111,30 @@ impl Maker {
         self.add(list.clone(), UsedRegisters);
         self.add(list, PopulateLabels(label));
     }
+
+    /// The list to be reduced: slices as long as is asked, or some words longer.
+    fn add_optimize(&mut self, list: List) {
+        let longer = self.random.index(2) * 3;
+        let lengths = room(&list).map(|asked| asked + longer);
+        self.add(list, Optimize(lengths));
+    }
+
+    /// The list to be reduced, with one slice a word too short.
+    fn add_too_short(&mut self, list: List, slice: usize) {
+        let mut lengths = room(&list).map(|asked| asked + 1);
+        lengths[slice] -= 2;
+        self.add(list, Optimize(lengths));
+    }
 }
 
 /// The cases, always the same ones.
 pub fn cases() -> Vec<Case> {
-    let mut maker = Maker { random: Random::new(2026), cases: Vec::new() };
+    let mut maker = Maker { random: Random::new(2028), cases: Vec::new() };
     for case in ten::cases() {
         maker.add_both(case.list, 7);
     }
     maker.add_both(limits::tops(Settings { count_regs: 32, ..Settings::default() }), u32::MAX);
-    for _ in 0..200 {
+    for _ in 0..125 {
         let list = any_list(&mut maker.random, 16);
         maker.add_any(list.clone());
         let copy = damaged(&mut maker.random, &list);
@@ -102,6 +143,7 @@ pub fn cases() -> Vec<Case> {
         maker.add_any(copy);
     }
     add_long(&mut maker);
+    add_reduced(&mut maker);
     maker.cases
 }
 
@@ -113,6 +155,26 @@ fn add_long(maker: &mut Maker) {
     maker.add_both(long.clone(), label);
     long.record_mut(MOST_RECORDS - 1)[0] = 21;
     maker.add(long, UsedRegisters);
+}
+
+/// Lists to be reduced: known ones, random ones with a damaged copy, each slice too short, the
+/// longest list that fits.
+fn add_reduced(maker: &mut Maker) {
+    ten::cases().into_iter().for_each(|case| maker.add_optimize(case.list));
+    dozen::lists().into_iter().for_each(|named| maker.add_optimize(named.list));
+    maker.add_optimize(limits::tops(Settings { count_regs: 32, ..Settings::default() }));
+    for _ in 0..45 {
+        let list = any_list(&mut maker.random, 16);
+        maker.add_optimize(list.clone());
+        let copy = damaged(&mut maker.random, &list);
+        maker.add_optimize(copy);
+    }
+    for slice in 0..5 {
+        let list = list(&mut maker.random, &Taste::plain(3));
+        maker.add_too_short(list, slice);
+    }
+    let long = list(&mut maker.random, &Taste::plain(MOST_RECORDS));
+    maker.add_optimize(long);
 }
 
 /// The whole file.

@@ -6,8 +6,8 @@ use harness::lists::List;
 use harness::questions::refusal;
 use harness::record::{Record, WORDS};
 use harness::roles::{role, Role, KINDS};
-use harness::run::{optimize, statics};
-use harness::theorem::{dropped, text};
+use harness::run::{optimize, reduced};
+use harness::theorem::text;
 
 /// All records of the dozen.
 fn records() -> Vec<Vec<u32>> {
@@ -29,6 +29,11 @@ fn replaced(list: &List, at: usize, records: &[Record]) -> List {
     let mut list = list.clone();
     list.words.splice(at * WORDS..(at + 1) * WORDS, records.concat());
     list
+}
+
+/// How many nops, loads, moves and saves are dropped.
+fn dropped(list: &List) -> [u32; 4] {
+    reduced(list).dropped
 }
 
 fn times(words: &[u32], kind: u32) -> usize {
@@ -59,7 +64,7 @@ fn every_kind_and_register() {
     }
     assert!(has(|record| record[..2] == [2, 19]), "the last UniOp");
     assert!(has(|record| record[..2] == [3, 14]), "the last BinOp");
-    let colours = statics(&list_of("thirty-two"));
+    let colours = reduced(&list_of("thirty-two")).statics;
     assert!((0..32).all(|colour| colours.iter().any(|colour_end| colour_end.0 == colour)));
 }
 

@@ -1,6 +1,8 @@
-//! The two operations through the C doors, beside the original and the questions.
+//! The operations through the C doors, beside the original and the questions.
 
 mod exhaustive;
+mod faulty;
+mod optimize;
 mod random;
 mod refusals;
 mod soup;

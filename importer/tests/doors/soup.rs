@@ -18,7 +18,7 @@ fn any_word(random: &mut Random) -> u32 {
     }
 }
 
-fn soup(random: &mut Random) -> List {
+pub fn soup(random: &mut Random) -> List {
     let settings = Settings {
         count_regs: if random.percent(95) { random.between(0, 33) } else { random.word() },
         compress: random.percent(20),

@@ -1,21 +1,30 @@
 //! The stored answers, replayed through the doors.
 
-use harness::vectors::{cases, Operation};
+use crate::optimize::support::called;
+use harness::answers;
+use harness::lent::started;
+use harness::vectors::{cases, filled, Case, Operation};
 use rudzaviks::door::{populate_labels_word, used_registers_word};
+
+fn got(case: &Case) -> u64 {
+    let (words, table) = (&case.list.words, &case.list.table);
+    let [count_regs, .., compress] = case.list.settings.words(case.flag);
+    match case.operation {
+        Operation::UsedRegisters => used_registers_word(words, table, count_regs, compress),
+        Operation::PopulateLabels(label) => populate_labels_word(words, table, count_regs, label),
+        Operation::Optimize(lengths) => {
+            let lent = filled(lengths);
+            let (word, left) = called(&case.list, case.flag, &lent);
+            let starts = answers::optimize(&case.list, lengths).1;
+            assert_eq!(left, started(&lent, starts), "{:?}", case.list);
+            word
+        }
+    }
+}
 
 #[test]
 fn the_stored_answers_hold() {
     for case in cases() {
-        let (words, table) = (&case.list.words, &case.list.table);
-        let count_regs = case.list.settings.count_regs;
-        let got = match case.operation {
-            Operation::UsedRegisters => {
-                used_registers_word(words, table, count_regs, case.compress)
-            }
-            Operation::PopulateLabels(label) => {
-                populate_labels_word(words, table, count_regs, label)
-            }
-        };
-        assert_eq!(got, case.answer(), "{:?} {:?}", case.operation, case.list);
+        assert_eq!(got(&case), case.answer(), "{:?} {:?}", case.operation, case.list);
     }
 }

@@ -47,46 +47,28 @@ words-requires-2 c κs = search needs
 returns-2 : tie.Need-returns-2
 returns-2 c = search needs
 
-word-requires-5 : tie.Need-word-requires-5
-word-requires-5 c κs = search needs
-
-cast-low : tie.Need-cast-low
-cast-low c = search needs
-
-word-requires-6 : tie.Need-word-requires-6
-word-requires-6 c κs = search needs
-
-cast-high : tie.Need-cast-high
-cast-high c = search needs
-
 array-share-prefix-list : tie.Need-array-share-prefix-list
 array-share-prefix-list c =
-    let w = c .before .before .before .before in
+    let w = c .before .before in
     let n = w .before .before .word4 .result in
-    let h : n ≤ 4096 = leb-true n 4096 (sym (w .words2 .ensures .1) ∙ not-false _ (c .before .before .if2 .left)) in
+    let h : n ≤ 4096 = leb-true n 4096 (sym (w .words2 .ensures .1) ∙ not-false _ (c .if2 .left)) in
     rw (w .words2 .ensures .0) h
 
-slice-aggregate-answer : tie.Need-slice-aggregate-answer
-slice-aggregate-answer c = sym (length-take-le _ _ (array-share-prefix-list (c .before)))
+slice-aggregate-agrees : tie.Need-slice-aggregate-agrees
+slice-aggregate-agrees c = sym (length-take-le _ _ (array-share-prefix-list (c .before)))
 
 array-share-prefix-table : tie.Need-array-share-prefix-table
 array-share-prefix-table c =
-    let w = c .before .before .before .before .before .before .before .before .before .before in
+    let w = c .before .before .before .before .before .before .before .before in
     let n = w .before .before .word3 .result in
-    let h : n ≤ 1024 = leb-true n 1024 (sym (w .words .ensures .1) ∙ not-false _ (c .before .before .before .before .before .before .before .before .if1 .left)) in
+    let h : n ≤ 1024 = leb-true n 1024 (sym (w .words .ensures .1) ∙ not-false _ (c .before .before .before .before .before .before .if1 .left)) in
     rw (w .words .ensures .0) h
 
-slice-aggregate-answer-2 : tie.Need-slice-aggregate-answer-2
-slice-aggregate-answer-2 c = sym (length-take-le _ _ (array-share-prefix-table (c .before)))
+slice-aggregate-agrees-2 : tie.Need-slice-aggregate-agrees-2
+slice-aggregate-agrees-2 c = sym (length-take-le _ _ (array-share-prefix-table (c .before)))
 
-answer-requires : tie.Need-answer-requires
-answer-requires c κs = search needs
-
-mul-result : tie.Need-mul-result
-mul-result c = search needs
-
-add-result : tie.Need-add-result
-add-result c = search needs
+agrees-requires : tie.Need-agrees-requires
+agrees-requires c κs = search needs
 
 returns-3 : tie.Need-returns-3
 returns-3 c = search needs
@@ -108,15 +90,9 @@ replay-spec =
     slice-aggregate-words-2
     words-requires-2
     returns-2
-    word-requires-5
-    cast-low
-    word-requires-6
-    cast-high
     array-share-prefix-list
-    slice-aggregate-answer
+    slice-aggregate-agrees
     array-share-prefix-table
-    slice-aggregate-answer-2
-    answer-requires
-    mul-result
-    add-result
+    slice-aggregate-agrees-2
+    agrees-requires
     returns-3)

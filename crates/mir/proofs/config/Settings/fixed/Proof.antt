@@ -6,28 +6,22 @@ use Rattle.mir.proofs.config.Settings.fixed.Tie as tie
 use Rattle.mir.proofs.config.Settings.fixed.Reads as reads
 use Rattle.mir.proofs.config.Settings.fixed.Lts as lts
 
--- src/config.rt:19:20
 cast-args : tie.Need-cast-args
 cast-args c = search needs
 
--- src/config.rt:21:13
 mul-result : tie.Need-mul-result
 mul-result c = search needs
 
--- src/config.rt:21:13
 add-result : tie.Need-add-result
 add-result c = search needs
 
--- src/config.rt:23:13
 add-result-2 : tie.Need-add-result-2
 add-result-2 c = search needs
 
--- src/config.rt:16:5
 returns : tie.Need-returns
 unfolding fixedMark
 returns c = rw (c .if1 .taken)
 
--- src/config.rt:16:5
 returns-2 : tie.Need-returns-2
 unfolding fixedMark
 returns-2 c = rw (c .if1 .left)

@@ -1,0 +1,62 @@
+-- `allocator::has_room` meets its contract: a test that fails makes the whole false, and the last one counts what is left of the set.
+use Prim.Native.Nat.{ℕ, _+_, _*_, _-_, _/_, _≤_}
+use mathlib.Core.Path.{_≡_, refl, sym}
+use mathlib.Core.Bool.{Bool, true, false}
+use native.Mathlib.Omega.{arith}
+use lib.Dec.{leb}
+use Rattle.allocator.specs.Optimize.{roomFor}
+use borrow.Author.Tests.{leb-true, leb-false, le-leb, lt-leb}
+use borrow.Author.Needs.{needs}
+use Rattle.allocator.proofs.has_room.Statement.{statement}
+use Rattle.allocator.proofs.has_room.Tie as tie
+
+-- what is added on one side is taken away on the other
+leb-less : (n m k : ℕ) → k ≤ m → leb n (m - k) ≡ leb (n + k) m
+leb-less n m k h = go (leb n (m - k)) refl
+  where
+    go : (b : Bool) → leb n (m - k) ≡ b → b ≡ leb (n + k) m
+    go true e = sym (le-leb (n + k) m (omega (arith, leb-true n (m - k) e)))
+    go false e = sym (lt-leb (n + k) m (omega (arith, leb-false n (m - k) e)))
+
+returns : tie.Need-returns
+unfolding roomFor
+returns c =
+    let a = c .before .args in
+    rw (lt-leb (a .list) (a .out) (omega arith))
+
+mul-if2 : tie.Need-mul-if2
+mul-if2 c = search needs
+
+returns-2 : tie.Need-returns-2
+unfolding roomFor
+returns-2 c =
+    let a = c .before .before .args in
+    rw (le-leb (a .list) (a .out) (omega arith), lt-leb (a .list / 8 * 2) (a .colours) (omega arith))
+
+mul-if3 : tie.Need-mul-if3
+mul-if3 c = search needs
+
+returns-3 : tie.Need-returns-3
+unfolding roomFor
+returns-3 c =
+    let a = c .before .before .before .args in
+    rw (le-leb (a .list) (a .out) (omega arith), le-leb (a .list / 8 * 2) (a .colours) (omega arith), lt-leb (a .list / 8 * 2) (a .ends) (omega arith))
+
+returns-4 : tie.Need-returns-4
+unfolding roomFor
+returns-4 c =
+    let a = c .before .before .before .before .args in
+    rw (le-leb (a .list) (a .out) (omega arith), le-leb (a .list / 8 * 2) (a .colours) (omega arith), le-leb (a .list / 8 * 2) (a .ends) (omega arith), lt-leb (a .list / 8 * 4 + a .table) (a .set) (omega arith))
+
+mul-result : tie.Need-mul-result
+mul-result c = search needs
+
+returns-5 : tie.Need-returns-5
+unfolding roomFor
+returns-5 c =
+    let a = c .before .before .before .before .args in
+    rw (le-leb (a .list) (a .out) (omega arith), le-leb (a .list / 8 * 2) (a .colours) (omega arith), le-leb (a .list / 8 * 2) (a .ends) (omega arith)) (leb-less (a .list / 8 * 4) (a .set) (a .table) (omega arith))
+
+pub has-room-spec : {M : Type 1} → statement M
+has-room-spec =
+    tie.close (tie.spec returns mul-if2 returns-2 mul-if3 returns-3 returns-4 mul-result returns-5)

@@ -1,0 +1,41 @@
+-- `allocator::pool::allocate` meets its contract: the first bare colour, else the first free one.
+use mathlib.Core.Bool.{_&&_}
+use mathlib.Core.Option.{none}
+use Rattle.passes.specs.Color.{isFree, isBare, firstBelow, freeOr, plainChoice}
+use Rattle.passes.specs.declared.alloc.Choice.the-variants.{Empty}
+use mathlib.Core.Path.{_≡_, sym, ap, _∙_}
+use Rattle.allocator.specs.Pools.{placed}
+use borrow.Author.Needs.{needs}
+use Rattle.allocator.proofs.pool.allocate.Statement.{statement}
+use Rattle.allocator.proofs.pool.allocate.Tie as tie
+
+first-requires : tie.Need-first-requires
+first-requires c κs = search needs
+
+enum-known-bare : tie.Need-enum-known-bare
+enum-known-bare c = search needs
+
+enum-told : tie.Need-enum-told
+enum-told c = search needs
+
+allocate-free-requires : tie.Need-allocate-free-requires
+allocate-free-requires c κs = search needs
+
+returns : tie.Need-returns
+unfolding plainChoice
+returns c =
+    let f = c .before .before .before in
+    let e : none ≡ firstBelow (λ k. isFree (f .before .args .i) (f .before .args .allocs) k && isBare (f .before .args .allocs) k) (f .before .args .n) = sym (ap placed (c .before .enum-told .given .1)) ∙ f .first .ensures in
+    rw (← e) (c .allocate-free .ensures)
+
+returns-2 : tie.Need-returns-2
+unfolding plainChoice
+returns-2 c =
+    let f = c .before .before .before in
+    let e = sym (ap placed (c .before .bare .given .1)) ∙ f .first .ensures in
+    ap (λ o. freeOr o (freeOr (firstBelow (isFree (f .before .args .i) (f .before .args .allocs)) (f .before .args .n)) Empty)) e
+
+pub allocate-spec : {M : Type 1} → statement M
+allocate-spec =
+    tie.close
+    (tie.spec first-requires enum-known-bare enum-told allocate-free-requires returns returns-2)

@@ -1,0 +1,31 @@
+-- `allocator::pool::allocate_free` meets its contract: a colour that was met is given.
+use Rattle.passes.specs.Color.{freeOr}
+use Rattle.passes.specs.declared.alloc.Choice.the-variants.{Empty}
+use mathlib.Core.Path.{sym, ap, _∙_}
+use Rattle.allocator.specs.Pools.{placed}
+use borrow.Author.Needs.{needs}
+use Rattle.allocator.proofs.pool.allocate_free.Statement.{statement}
+use Rattle.allocator.proofs.pool.allocate_free.Tie as tie
+
+first-requires : tie.Need-first-requires
+first-requires c κs = search needs
+
+enum-known-free : tie.Need-enum-known-free
+enum-known-free c = search needs
+
+enum-told : tie.Need-enum-told
+enum-told c = search needs
+
+returns : tie.Need-returns
+returns c =
+    let f = c .before .before in
+    ap (λ o. freeOr o Empty) (sym (ap placed (c .enum-told .given .1)) ∙ f .first .ensures)
+
+returns-2 : tie.Need-returns-2
+returns-2 c =
+    let f = c .before .before .before in
+    ap (λ o. freeOr o Empty) (sym (ap placed (c .before .free .given .1)) ∙ f .first .ensures)
+
+pub allocate-free-spec : {M : Type 1} → statement M
+allocate-free-spec =
+    tie.close (tie.spec first-requires enum-known-free enum-told returns returns-2)

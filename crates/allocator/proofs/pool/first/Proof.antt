@@ -1,0 +1,80 @@
+-- `allocator::pool::first` meets its contract: no colour passed is what is looked for.
+-- By the laws of `firstBelow`.
+use Prim.Native.Nat.{ℕ, _≤_, _-_}
+use mathlib.Core.Bool.{Bool}
+use mathlib.Core.Option.{none}
+use mathlib.Core.Path.{_≡_, sym, _∙_}
+use native.Mathlib.Omega.{arith}
+use Rattle.passes.specs.declared.alloc.Alloc.{Alloc}
+use mathlib.Core.List.{List}
+use Rattle.passes.specs.Color.{firstBelow, colourAt}
+use Rattle.allocator.specs.Pools.{meets}
+use Rattle.allocator.specs.declared.pool.Wish.{Wish}
+use Rattle.allocator.proofs.Firsts.{first-zero, first-more, first-stops}
+use borrow.Author.Needs.{needs}
+use Rattle.allocator.proofs.pool.first.Statement.{statement}
+use Rattle.allocator.proofs.pool.first.Tie as tie
+
+abbrev at : Wish → ℕ → List Alloc → ℕ → Bool
+at wish i allocs c = meets wish i (colourAt allocs c)
+
+abbrev Inv-loop : tie.InvT-loop
+Inv-loop n i wish allocs c₀ c = (c ≤ n) × (firstBelow (at wish i allocs) c ≡ none)
+
+abbrev μ-loop : tie.MeasureT-loop
+μ-loop n i wish allocs c₀ c = n - c
+
+loop-holds : tie.Need-loop-holds Inv-loop μ-loop
+loop-holds c = (search needs, first-zero _)
+
+mul-meets : tie.Need-mul-meets Inv-loop μ-loop
+mul-meets c = search needs
+
+array-copy-out-meets : tie.Need-array-copy-out-meets Inv-loop μ-loop
+array-copy-out-meets c = omega arith
+
+meets-requires : tie.Need-meets-requires Inv-loop μ-loop
+meets-requires c κs = search needs
+
+cast-t13 : tie.Need-cast-t13 Inv-loop μ-loop
+cast-t13 c = search needs
+
+returns : tie.Need-returns Inv-loop μ-loop
+returns c =
+    let b = c .before .before .before .before in
+    let a = b .before .args in
+    sym (first-stops (at (a .wish) (a .i) (a .t1)) (a .n) (b .loop .c) (c .before .before .before .loop-test .taken) (b .loop .inv .1) (sym (c .before .meets .ensures) ∙ c .if1 .taken))
+
+add-c : tie.Need-add-c Inv-loop μ-loop
+add-c c = search needs
+
+loop-less : tie.Need-loop-less Inv-loop μ-loop
+loop-less c = search needs
+
+loop-again : tie.Need-loop-again Inv-loop μ-loop
+loop-again c =
+    let b = c .before .before .before .before in
+    let a = b .before .args in
+    (search needs, first-more (at (a .wish) (a .i) (a .t1)) (b .loop .c) (b .loop .inv .1) (sym (c .before .meets .ensures) ∙ c .if1 .left))
+
+returns-2 : tie.Need-returns-2 Inv-loop μ-loop
+returns-2 c =
+    let e : c .before .loop .c ≡ c .before .before .args .n = omega arith in
+    sym (rw e at (c .before .loop .inv .1))
+
+pub first-spec : {M : Type 1} → statement M
+first-spec =
+    tie.close
+    (tie.spec
+    Inv-loop
+    μ-loop
+    loop-holds
+    mul-meets
+    array-copy-out-meets
+    meets-requires
+    cast-t13
+    returns
+    add-c
+    loop-less
+    loop-again
+    returns-2)

@@ -1,0 +1,4 @@
+-- What `optimize` promises.
+pub mod Pools
+pub mod Optimize
+pub mod Walks

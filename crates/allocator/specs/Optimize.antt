@@ -1,0 +1,94 @@
+-- Document 01, sections 4, 5, 7 and 10: what `optimize` answers, and what the lent slices then hold.
+use Prim.Native.Nat.{ℕ, _+_, _*_, _/_}
+use mathlib.Core.Bool.{Bool, _&&_}
+use mathlib.Core.List.{List, [], _∷_, _++_}
+use mathlib.Core.Path.{_≡_}
+use lib.Dec.{leb}
+use lib.ListN.{length, getD, take, drop}
+use Rattle.mir.specs.declared.config.Settings.{Settings}
+use Rattle.mir.specs.declared.questions.Verdict.{Verdict}
+use Rattle.mir.specs.declared.questions.Verdict.the-variants as verdict
+use Rattle.mir.specs.Answers.{Report, answered, refused, unless}
+use Rattle.mir.specs.Questions.{refusal}
+use Rattle.passes.specs.declared.alloc.Fate.the-variants.{Kept, Nop, Load, Move, Save}
+use Rattle.passes.specs.declared.symbol.Loc.{Loc}
+use Rattle.passes.specs.Contract.{reduced, coloursOf, membersOf, countOf}
+use Rattle.passes.specs.Create.{endsOf}
+use Rattle.passes.specs.Machine.{Meaning, State, run, AllScalar, EndsEqual}
+use Rattle.allocator.specs.declared.Answer.{Answer}
+use Rattle.allocator.specs.declared.Answer.the-variants.{Reduced, Refused}
+
+-- section 7, question 4, by the numbers of words: has the output at least the list's length, the statics (colours and
+-- ends) at least two entries per record, the set at least 4 words per record plus the table's length?
+unfoldable pub roomFor : (list table out colours ends set : ℕ) → Bool
+roomFor list table out colours ends set =
+    leb list out && (leb (list / 8 * 2) colours && (leb (list / 8 * 2) ends && leb (list / 8 * 4 + table) set))
+
+-- the slices that are lent to be written: the output, the statics' colours and ends, and the read set
+pub record Lent : Type 0 where
+  pub out : List ℕ
+  pub colours : List ℕ
+  pub ends : List ℕ
+  pub set : List ℕ
+
+abbrev pub lent : List ℕ → List ℕ → List ℕ → List ℕ → Lent
+lent out colours ends set = record { out = out; colours = colours; ends = ends; set = set }
+
+unfoldable pub roomIn : List ℕ → List ℕ → Lent → Bool
+roomIn list table held =
+    roomFor (length list) (length table) (length (held .out)) (length (held .colours)) (length (held .ends)) (length (held .set))
+
+-- the nine questions, with these slices
+unfoldable pub verdictOf : Settings → List ℕ → List ℕ → Lent → Verdict
+verdictOf s list table held = refusal (roomIn list table held) s list table
+
+-- section 4: the counts of records, statics and set members, and of dropped nops, loads, moves and saves
+unfoldable pub countsOf : Settings → List ℕ → List ℕ → List ℕ
+countsOf s list table =
+    countOf Kept s list table
+    ∷ length (coloursOf s list table)
+    ∷ length (membersOf s list table)
+    ∷ countOf Nop s list table
+    ∷ countOf Load s list table
+    ∷ countOf Move s list table
+    ∷ countOf Save s list table
+    ∷ []
+
+abbrev pub report : Answer → Report
+report (Reduced c) =
+    answered (c .records ∷ c .statics ∷ c .members ∷ c .nops ∷ c .loads ∷ c .moves ∷ c .saves ∷ [])
+report (Refused number index) = refused number index
+
+-- how many records the reduced list has
+abbrev pub recordsIn : Report → ℕ
+recordsIn (answered values) = getD values 0 0
+recordsIn (refused number index) = 0
+
+-- a slice that starts with the words, all else being what it held
+abbrev pub over : List ℕ → List ℕ → List ℕ
+over words held = words ++ drop (length words) held
+
+-- and so it does if the list passes; a refusal changes no lent word
+abbrev pub left : Verdict → List ℕ → List ℕ → List ℕ
+left verdict.Passed words held = over words held
+left (verdict.Refused number index) words held = held
+
+-- locations as words, two each
+unfoldable pub wordsOf : List Loc → List ℕ
+wordsOf [] = []
+wordsOf (l ∷ ls) = l .space ∷ l .index ∷ wordsOf ls
+
+-- the promise of `optimize`, with what the lent slices held and hold
+pub record Optimized (s : Settings) (list table : List ℕ) (held now : Lent) (given : Answer) : Type 0 where
+  pub answer : report given ≡ unless (verdictOf s list table held) (countsOf s list table)
+  pub out : now .out ≡ left (verdictOf s list table held) (reduced s list table) (held .out)
+  pub colours : now .colours ≡ left (verdictOf s list table held) (coloursOf s list table) (held .colours)
+  pub ends : now .ends ≡ left (verdictOf s list table held) (endsOf list) (held .ends)
+  pub set : now .set ≡ left (verdictOf s list table held) (wordsOf (membersOf s list table)) (held .set)
+  -- section 5: the run of an accepted list of scalar straight-line kinds, and the run of the first records that the
+  -- output now holds, as many as the answer counts, end equal
+  pub preserved :
+      verdictOf s list table held ≡ verdict.Passed
+      → AllScalar list
+      → (m : Meaning) (start : State)
+      → EndsEqual s (run m list start) (run m (take (recordsIn (report given) * 8) (now .out)) start)

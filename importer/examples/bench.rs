@@ -1,0 +1,86 @@
+//! Times the original and the door on the same lists, and prints a table of both.
+//!
+//! `cargo run --release --offline --example bench`, in importer/. Timed is the work on lists that
+//! stand ready: the original's `optimize` on its own form of the list, and the door on words and
+//! buffers, which it finds as the run before left them. The door puts its questions; the original
+//! has none. Each run takes as many lists as make 65,536 records, first by one and then by the
+//! other; a time is the middle one of the runs, for one list.
+
+use std::time::{Duration, Instant};
+
+use harness::lists::{list, List, Taste};
+use harness::random::Random;
+use harness::run::{self, Ready};
+use harness::settings::Settings;
+use rudzaviks::door::{optimize_word, Buffers};
+
+const LENGTHS: [usize; 4] = [64, 512, 4_096, 65_536];
+
+const RECORDS: usize = 65_536;
+
+const RUNS: usize = 9;
+
+const SETTINGS: Settings =
+    Settings { count_regs: 14, args: 0, complex: false, arm: false, compress: false };
+
+fn lists(records: usize, straight: bool, cells: u32) -> Vec<List> {
+    let mut random = Random::new(records as u64);
+    let taste = Taste { settings: SETTINGS, cells, ..Taste::plain(records) };
+    let taste = if straight { taste.straight() } else { taste };
+    (0..RECORDS / records).map(|_| list(&mut random, &taste)).collect()
+}
+
+/// The original's time for all lists.
+fn time_original(lists: &[List]) -> Duration {
+    let mut ready: Vec<Ready> = lists.iter().map(Ready::new).collect();
+    let start = Instant::now();
+    ready.iter_mut().for_each(Ready::optimize);
+    start.elapsed()
+}
+
+/// The door's time for all lists, and its answers.
+fn time_door(lists: &[List], buffers: &mut [Buffers]) -> (Duration, Vec<u64>) {
+    let mut answers = Vec::with_capacity(lists.len());
+    let start = Instant::now();
+    for (list, buffers) in lists.iter().zip(buffers) {
+        let settings = list.settings.words(1);
+        answers.push(optimize_word(&list.words, &list.table, settings, &mut buffers.lend()));
+    }
+    (start.elapsed(), answers)
+}
+
+fn middle(mut times: Vec<Duration>) -> Duration {
+    times.sort();
+    times[times.len() / 2]
+}
+
+/// The middle times of the original and of the door, for one list, in microseconds.
+fn times(lists: &[List]) -> [f64; 2] {
+    let owed: Vec<u64> = lists.iter().map(|list| run::optimize(list).len() as u64 / 8).collect();
+    let new = |list: &List| Buffers::new(list.words.len(), list.table.len());
+    let mut buffers: Vec<Buffers> = lists.iter().map(new).collect();
+    let (mut original, mut door) = (Vec::new(), Vec::new());
+    for _ in 0..RUNS {
+        original.push(time_original(lists));
+        let (time, answers) = time_door(lists, &mut buffers);
+        assert!(answers == owed, "the door leaves other records than the original");
+        door.push(time);
+    }
+    [original, door].map(|times| middle(times).as_secs_f64() * 1e6 / lists.len() as f64)
+}
+
+fn main() {
+    println!("| records | kinds | locations | original, µs | port, µs | port / original |");
+    println!("|--:|---|---|--:|--:|--:|");
+    for (kinds, straight) in [("all", false), ("straight-line", true)] {
+        for records in LENGTHS {
+            for (locations, cells) in [("few", 3), ("many", records as u32)] {
+                let [original, port] = times(&lists(records, straight, cells));
+                let ratio = port / original;
+                println!(
+                    "| {records} | {kinds} | {locations} | {original:.1} | {port:.1} | {ratio:.2} |"
+                );
+            }
+        }
+    }
+}

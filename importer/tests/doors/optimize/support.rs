@@ -1,0 +1,61 @@
+//! Comparing the door with what is owed.
+
+use std::hint::black_box;
+
+use crate::support::shown;
+use harness::answers;
+use harness::lent::{lengths, started, with_room, Lent};
+use harness::lists::List;
+use harness::random::Random;
+use rudzaviks::door::{self, optimize_word, Answer, Counts};
+
+const NAMES: [&str; 5] = ["out", "colours", "ends", "set", "counts"];
+
+/// Stands on each side of every lent slice.
+const FENCE: [u32; 4] = [3_141_592_653; 4];
+
+/// The door's answer, and what the slices then hold; `flag` is the word of one that is set.
+pub fn called(list: &List, flag: u32, lent: &Lent) -> (u64, Lent) {
+    let mut fenced = lent.each_ref().map(|slice| [&FENCE, &slice[..], &FENCE].concat());
+    let [out, colours, ends, set, counts] = fenced.each_mut().map(|slice| {
+        let end = slice.len() - FENCE.len();
+        &mut slice[FENCE.len()..end]
+    });
+    let mut lent = door::Lent { out, colours, ends, set, counts };
+    let word = optimize_word(&list.words, &list.table, list.settings.words(flag), &mut lent);
+    let left = fenced.map(|slice| {
+        let inner = slice.strip_prefix(&FENCE).and_then(|slice| slice.strip_suffix(&FENCE));
+        inner.expect("the words beside a slice as they were").to_vec()
+    });
+    (word, left)
+}
+
+/// The door answers and leaves what is owed, and leaves the list and the table as they were.
+pub fn agree(random: &mut Random, list: &List, lent: &Lent) -> Answer {
+    let flag = random.pick(&[1, 2, 256, 1 << 31, u32::MAX]);
+    let mut read = list.clone();
+    let (word, left) = called(&read, flag, lent);
+    let (owed, starts) = answers::optimize(list, lengths(lent));
+    assert_eq!(word, owed, "flags {flag}: {}", shown(list));
+    for ((name, left), owed) in NAMES.iter().zip(&left).zip(&started(lent, starts)) {
+        if let Some(at) = (0..owed.len()).find(|at| left[*at] != owed[*at]) {
+            panic!("{name} at {at}: {} for {}: {}", left[at], owed[at], shown(list));
+        }
+    }
+    assert!(black_box(&mut read) == list, "a lent word was changed: {}", shown(list));
+    Answer::from_words(word, &left[4])
+}
+
+/// `agree` with slices that have room.
+pub fn agree_with_room(random: &mut Random, list: &List) -> Answer {
+    let lent = with_room(random, list);
+    agree(random, list, &lent)
+}
+
+/// `agree_with_room` on a list that passes.
+pub fn passes(random: &mut Random, list: &List) -> Counts {
+    match agree_with_room(random, list) {
+        Answer::Reduced(counts) => counts,
+        Answer::Refused(refusal) => panic!("{refusal:?}: {}", shown(list)),
+    }
+}
