@@ -12,6 +12,8 @@ fn main() {
     }
     println!("cargo:rustc-link-search=native={}", library_dir().display());
     println!("cargo:rustc-link-lib=static=entry");
+    // for the test that links the library to a C program
+    println!("cargo:rustc-env=RUDZAVIKS_LIB={}", library.display());
 }
 
 /// Where the library stands: the variable RUDZAVIKS_LIB_DIR, or the repository's own place for it.

@@ -6,18 +6,15 @@
 
 mod beside;
 mod optimize;
+mod reduce;
+mod refusal;
 
 pub use beside::{
     populate_labels, populate_labels_word, used_registers, used_registers_word, Place, Used,
 };
 pub use optimize::{optimize, optimize_word, Answer, Buffers, Counts, Lent, Settings};
-
-/// The question that was answered no, and the index of the record that it was put to.
-#[derive(Clone, Copy, Debug, PartialEq, Eq)]
-pub struct Refusal {
-    pub number: u32,
-    pub index: u32,
-}
+pub use reduce::{reduce, reduce_word};
+pub use refusal::Refusal;
 
 fn low(word: u64) -> u32 {
     word as u32

@@ -1,2 +1,3 @@
 -- What the C doors answer, in one word.
 pub mod Doors
+pub mod File

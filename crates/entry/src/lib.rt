@@ -1,12 +1,21 @@
 // The C doors: each takes word slices and numbers, and answers in one 64-bit word.
+pub mod file;
+pub mod reduce;
+
 ghost use Prim.Native.Nat.{_≤_};
 ghost use mathlib.Core.List.{[]};
 ghost use mathlib.Core.Path.{_≡_};
 ghost use lib.ListN.{length};
 ghost use Rattle.allocator.specs.Optimize.{lent, over};
 ghost use Rattle.entry.specs.Doors.{FewUsed, OptimizeDoor, flag, settingsOf, refusalWord, doorWord, usedWord, placeWord, recordsWord, valuesIn};
+ghost use Rattle.entry.specs.declared.file.Layout.the-variants as layout;
+ghost use Rattle.entry.specs.File.{ReduceDoor, layoutOf};
 ghost use Rattle.mir.specs.Answers.{unless};
 ghost use Rattle.mir.specs.Beside.{usedRegisters, usedReport, populateLabels, placeReport};
+use crate::file::Layout;
+use crate::file::layout_of;
+use crate::file::write_words;
+use crate::reduce::reduce_sections;
 use allocator::Answer;
 use allocator::Counts;
 use allocator::optimize;
@@ -23,17 +32,24 @@ fn refusal_word(number: u32, index: u32) -> u64
     (number as u64) * 4_294_967_296 + (index as u64)
 }
 
+// The settings, from numbers; a flag is set if its word isn't 0.
+pub fn settings_of(count_regs: u32, args: u32, complex: u32, arm: u32, compress: u32) -> Settings
+    ensures { λ r. ⌜ r ≡ settingsOf «count_regs» args complex arm compress ⌝ }
+{
+    Settings {
+        count_regs,
+        args,
+        complex: complex != 0,
+        arm: arm != 0,
+        compress: compress != 0,
+    }
+}
+
 // The settings that the operations beside the passes look at.
 fn settings_beside(count_regs: u32, compress: u32) -> Settings
     ensures { λ r. ⌜ (r .«count_regs» ≡ «count_regs») × (r .compress ≡ flag compress) ⌝ }
 {
-    Settings {
-        count_regs,
-        args: 0,
-        complex: false,
-        arm: false,
-        compress: compress != 0,
-    }
+    settings_of(count_regs, 0, 0, 0, compress)
 }
 
 fn used_word(used: Used) -> u64
@@ -82,19 +98,6 @@ pub extern "C" fn rudzaviks_populate_labels(
 {
     let settings = settings_beside(count_regs, 0);
     place_word(mir::populate_labels(list, table, settings, label))
-}
-
-// The settings, from numbers; a flag is set if its word isn't 0.
-fn settings_of(count_regs: u32, args: u32, complex: u32, arm: u32, compress: u32) -> Settings
-    ensures { λ r. ⌜ r ≡ settingsOf «count_regs» args complex arm compress ⌝ }
-{
-    Settings {
-        count_regs,
-        args,
-        complex: complex != 0,
-        arm: arm != 0,
-        compress: compress != 0,
-    }
 }
 
 // The seven counts at the start of a slice.
@@ -148,5 +151,34 @@ pub extern "C" fn rudzaviks_optimize(
             c.records as u64
         }
         Answer::Refused(number, index) => refusal_word(number, index),
+    }
+}
+
+// A well-formed file reduced into bytes.
+fn reduce_bytes(file: &[u8], pairs: usize, records: usize, out: &mut [u8]) -> u64
+    requires { ⌜ layoutOf (now file) ≡ layout.Counts pairs records ⌝ }
+    ensures { λ r. ⌜ ReduceDoor (now (file .entry)) (now (out .entry)) (now (out .exit)) r ⌝ }
+{
+    let room = 4 + records * 32 <= out.len();
+    let mut words = [0u32; 4096];
+    match reduce_sections(file, pairs, records, room, &mut words) {
+        Answer::Reduced(c) => {
+            let count = c.records;
+            let end = (count as usize) * 8;
+            write_words(count, &words[..end], out);
+            count as u64
+        }
+        Answer::Refused(number, index) => refusal_word(number, index),
+    }
+}
+
+// The file reduced into bytes: the number of records, or a refusal.
+#[no_mangle]
+pub extern "C" fn rudzaviks_reduce(file: &[u8], out: &mut [u8]) -> u64
+    ensures { λ r. ⌜ ReduceDoor (now (file .entry)) (now (out .entry)) (now (out .exit)) r ⌝ }
+{
+    match layout_of(file) {
+        Layout::Counts(pairs, records) => reduce_bytes(file, pairs, records, out),
+        Layout::Bad => refusal_word(3, 0),
     }
 }

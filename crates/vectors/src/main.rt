@@ -1,6 +1,7 @@
 // Replays stored answers of the original Rust against the C doors. docs/FORMAT.md has the form of its input, which
 // importer/ makes; this program needs no Rust.
-use libc::STDIN_FILENO;
+use console::length_to;
+use console::word;
 use libc::STDOUT_FILENO;
 ghost use Prim.Native.Nat.{_≤_};
 ghost use mathlib.Core.Path.{_≡_};
@@ -23,19 +24,6 @@ const COUNTS: usize = 11;
 
 // What every word of a lent slice is at first.
 const FILL: u32 = 2_779_096_485;
-
-fn wide(x: u8) -> u32
-    ensures { λ r. ⌜ r ≤ 255 ⌝ }
-{
-    x as u32
-}
-
-// The next word of the input, lowest byte first; 0 past its end.
-fn word() -> u32 {
-    let mut b = [0u8; 4];
-    io::read_full(STDIN_FILENO, &mut b);
-    wide(b[0]) + wide(b[1]) * 256 + wide(b[2]) * 65_536 + wide(b[3]) * 16_777_216
-}
 
 // Puts `w` at `i`, where there is room.
 fn put(out: &mut [u32], i: usize, w: u32)
@@ -89,17 +77,6 @@ fn answer(op: u32, s: Settings, label: u32, list: &[u32], table: &[u32]) -> u64 
         2 => entry::rudzaviks_populate_labels(list, table, s.count_regs, label),
         _ => 0,
     }
-}
-
-// The next word as a length, but at most `most`.
-fn length_to(most: usize) -> usize
-    ensures { λ r. ⌜ r ≤ most ⌝ }
-{
-    let n = word() as usize;
-    if n < most {
-        return n;
-    }
-    most
 }
 
 // Whether `got` starts with the next words, their number first, and holds FILL after them.

@@ -6,6 +6,7 @@
 
 use oracle::Reg;
 
+use crate::file;
 use crate::lent::{has_room, Lent};
 use crate::lists::List;
 use crate::questions::{refusal, refusal_beside, Refusal};
@@ -52,4 +53,26 @@ pub fn optimize(list: &List, lengths: [usize; 5]) -> (u64, Lent) {
     }
     let reduced = run::reduced(list);
     (u64::from(reduced.counts()[0]), reduced.lent())
+}
+
+/// The list of a file, where it passes with an output of this many bytes; else the refusal.
+pub fn passing(file: &[u8], out_len: usize) -> Result<List, Refusal> {
+    let list = file::decode(file).ok_or((3, 0))?;
+    let room = file::room(&list) <= out_len;
+    match refusal(&list.settings, &list.words, &list.table, room) {
+        Some(no) => Err(no),
+        None => Ok(list),
+    }
+}
+
+/// The number of records that are left of a file's list, or a refusal; and the bytes that the
+/// output, lent with this many, then starts with. A refusal puts none there.
+pub fn reduce(file: &[u8], out_len: usize) -> (u64, Vec<u8>) {
+    match passing(file, out_len) {
+        Ok(list) => {
+            let left = run::optimize(&list);
+            (left.len() as u64 / 8, file::output(&left))
+        }
+        Err(no) => (refused(no), Vec::new()),
+    }
 }

@@ -2,8 +2,10 @@
 //! them by the original and by the questions. Nothing here calls the verified code.
 
 pub mod answers;
+pub mod cases;
 pub mod damage;
 pub mod dozen;
+pub mod file;
 pub mod kinds;
 pub mod lent;
 pub mod limits;

@@ -27,7 +27,7 @@ pub fn lists() -> Vec<(&'static str, List)> {
         ("the largest fixed mark", list(&mut random, &Taste { extreme: 0, ..ends })),
         ("no registers", list(&mut random, &none)),
         ("every field at its top", tops(wide)),
-        ("the whole of the largest table", whole_table()),
+        ("the whole of the largest table", whole_table(MOST_PAIRS)),
     ]
 }
 
@@ -63,10 +63,11 @@ fn top_record(kind: u32, register: u32) -> Record {
     record
 }
 
-fn whole_table() -> List {
-    let most = MOST_PAIRS as u32;
-    let table = (0..most).flat_map(|pair| [pair % 3, pair]).collect();
-    let spans = [(0, most), (most, 0), (most - 1, 1), (0, 0)];
+/// LoadArgs records that name all of the pairs, the last one, and none.
+pub fn whole_table(pairs: usize) -> List {
+    let pairs = pairs as u32;
+    let table = (0..pairs).flat_map(|pair| [pair % 3, pair]).collect();
+    let spans = [(0, pairs), (pairs, 0), (pairs - 1, 1), (0, 0)];
     let words = spans.iter().flat_map(|(first, count)| [10, *first, *count, 1, 0, 0, 0, 0]);
     List { settings: Settings::default(), table, words: words.collect() }
 }

@@ -2,6 +2,8 @@
 
 use oracle::{CompilerType, Config, COMPLEX, COMPRESS};
 
+use crate::random::Random;
+
 #[derive(Clone, Copy, Debug, Default, PartialEq, Eq)]
 pub struct Settings {
     pub count_regs: u32,
@@ -9,6 +11,11 @@ pub struct Settings {
     pub complex: bool,
     pub arm: bool,
     pub compress: bool,
+}
+
+/// The word of a flag that is set: any but 0.
+pub fn set_flag(random: &mut Random) -> u32 {
+    random.pick(&[1, 2, 256, 1 << 31, u32::MAX])
 }
 
 impl Settings {
@@ -23,6 +30,12 @@ impl Settings {
         let flags = [self.complex, self.arm, self.compress];
         let [complex, arm, compress] = flags.map(|flag| if flag { set } else { 0 });
         [self.count_regs, self.args, complex, arm, compress]
+    }
+
+    /// The settings that five words stand for.
+    pub fn from_words([count_regs, args, complex, arm, compress]: [u32; 5]) -> Settings {
+        let [complex, arm, compress] = [complex, arm, compress].map(|word| word != 0);
+        Settings { count_regs, args, complex, arm, compress }
     }
 
     /// The same settings, as the original has them.

@@ -9,10 +9,11 @@
 //! they were. Each answer is the original's or the questions', none is the verified code's.
 
 use crate::damage::damaged;
+use crate::file::bytes;
 use crate::lent::{room, Lent};
 use crate::lists::{any_list, list, List, Taste};
 use crate::random::Random;
-use crate::settings::Settings;
+use crate::settings::{set_flag, Settings};
 use crate::{answers, dozen, limits, ten};
 
 /// The replay's buffers hold this many records and pairs.
@@ -92,7 +93,7 @@ struct Maker {
 
 impl Maker {
     fn add(&mut self, list: List, operation: Operation) {
-        let flag = self.random.pick(&[1, 2, 256, 1 << 31, u32::MAX]);
+        let flag = set_flag(&mut self.random);
         self.cases.push(Case { operation, list, flag });
     }
 
@@ -182,5 +183,5 @@ pub fn file() -> Vec<u8> {
     let cases = cases();
     let mut words = vec![cases.len() as u32];
     words.extend(cases.iter().flat_map(Case::words));
-    words.iter().flat_map(|word| word.to_le_bytes()).collect()
+    bytes(&words)
 }

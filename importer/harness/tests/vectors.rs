@@ -1,6 +1,7 @@
 //! The file of stored answers.
 
 use harness::answers::{self, ABSENT};
+use harness::file::words;
 use harness::record::WORDS;
 use harness::vectors::{cases, file, Case, Operation, MOST_LENT, MOST_PAIRS, MOST_RECORDS};
 
@@ -85,9 +86,7 @@ impl Reader {
 
 #[test]
 fn the_file_holds_the_cases() {
-    let bytes = file();
-    let words: Vec<u32> =
-        bytes.chunks(4).map(|word| u32::from_le_bytes(word.try_into().unwrap())).collect();
+    let words = words(&file()).expect("whole words");
     let mut reader = Reader { words: words.into_iter() };
     let cases = cases();
     assert_eq!(reader.word() as usize, cases.len());

@@ -27,9 +27,12 @@ extern "C" {
 pub enum Used {
     /// One bit for each register, and how many there are.
     Registers {
+        /// Register r has bit r.
         mask: u32,
+        /// How many bits are set.
         count: u32,
     },
+    /// The list is refused.
     Refused(Refusal),
 }
 
@@ -38,7 +41,9 @@ pub enum Used {
 pub enum Place {
     /// The index of the last Label with the number.
     At(u32),
+    /// No Label has the number.
     Absent,
+    /// The list is refused.
     Refused(Refusal),
 }
 

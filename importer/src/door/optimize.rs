@@ -34,10 +34,13 @@ const COUNTS: usize = 7;
 pub struct Settings {
     /// How many Gen registers there are, at most 32.
     pub count_regs: u32,
-    /// At most 65,535.
+    /// How many arguments the list has, at most 65,535.
     pub args: u32,
+    /// Whether an argument takes two Stack cells.
     pub complex: bool,
+    /// Whether it is for Arm. It changes no answer.
     pub arm: bool,
+    /// Whether every register counts as used.
     pub compress: bool,
 }
 
@@ -45,19 +48,28 @@ pub struct Settings {
 /// sort were dropped.
 #[derive(Clone, Copy, Debug, PartialEq, Eq)]
 pub struct Counts {
+    /// Records that are left.
     pub records: u32,
+    /// Statics: general registers written, each time anew.
     pub statics: u32,
+    /// Locations in the read set.
     pub members: u32,
+    /// Dropped Nop.
     pub nops: u32,
+    /// Dropped Load and LoadComplex.
     pub loads: u32,
+    /// Dropped Mov.
     pub moves: u32,
+    /// Dropped Save and SaveComplex.
     pub saves: u32,
 }
 
 /// What becomes of a list.
 #[derive(Clone, Copy, Debug, PartialEq, Eq)]
 pub enum Answer {
+    /// It is reduced, and the lent slices say to what.
     Reduced(Counts),
+    /// It is not, and the lent slices are as they were.
     Refused(Refusal),
 }
 
@@ -78,8 +90,9 @@ pub struct Lent<'a> {
     pub counts: &'a mut [u32],
 }
 
-/// Room for the slices of one list.
+/// Room for the slices of one list, which [`Lent`] explains.
 #[derive(Clone, Debug, PartialEq, Eq)]
+#[allow(missing_docs)]
 pub struct Buffers {
     pub out: Vec<u32>,
     pub colours: Vec<u32>,
@@ -89,10 +102,24 @@ pub struct Buffers {
 }
 
 impl Settings {
-    /// The settings as the door takes them.
-    fn words(self) -> [u32; 5] {
+    /// Stack cells below this index are looked at after the run; from it on they are the list's
+    /// own.
+    pub fn fixed_mark(self) -> u64 {
+        let slots = if self.complex { 2 } else { 1 };
+        slots * u64::from(self.args) + 16
+    }
+
+    /// The settings as a door takes them.
+    pub(crate) fn words(self) -> [u32; 5] {
         let [complex, arm, compress] = [self.complex, self.arm, self.compress].map(u32::from);
         [self.count_regs, self.args, complex, arm, compress]
+    }
+
+    /// The meaning of the words; a flag is set if its word is not 0.
+    pub(crate) fn from_words(words: [u32; 5]) -> Settings {
+        let [count_regs, args, complex, arm, compress] = words;
+        let [complex, arm, compress] = [complex, arm, compress].map(|flag| flag != 0);
+        Settings { count_regs, args, complex, arm, compress }
     }
 }
 
@@ -121,6 +148,7 @@ impl Buffers {
         }
     }
 
+    /// The slices, to be lent.
     pub fn lend(&mut self) -> Lent<'_> {
         Lent {
             out: &mut self.out,

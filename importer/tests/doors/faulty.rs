@@ -37,16 +37,17 @@ pub fn each_fault_at_places(
 /// Each fault early, midway and late in a list of as many records as may be.
 pub fn each_fault_in_the_longest(
     random: &mut Random,
+    most: usize,
     faults: &[Fault],
     mut check: impl FnMut(&List, u32, usize),
 ) {
     let settings = Settings { count_regs: 32, ..Settings::default() };
-    let longest = list(random, &Taste { settings, ..Taste::plain(65_536) });
+    let longest = list(random, &Taste { settings, ..Taste::plain(most) });
     for fault in faults {
-        for start in [0, 32_768, 65_500] {
+        for start in [0, most / 2, most - 36] {
             let mut list = longest.clone();
             let fits = |at: &usize| fault.put(random, &mut list, *at);
-            let at = (start..65_536).find(fits).expect("a record that the fault fits");
+            let at = (start..most).find(fits).expect("a record that the fault fits");
             check(&list, fault.number(), at);
         }
     }

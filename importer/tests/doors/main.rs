@@ -4,6 +4,7 @@ mod exhaustive;
 mod faulty;
 mod optimize;
 mod random;
+mod reduce;
 mod refusals;
 mod soup;
 mod support;

@@ -3,6 +3,7 @@
 use crate::faulty::*;
 use crate::support::{agree, shown};
 use harness::damage::{Fault, OF_LIST, OF_RECORD};
+use harness::limits::MOST_RECORDS;
 use harness::lists::List;
 use harness::random::Random;
 use rudzaviks::door::{populate_labels, used_registers, Place, Refusal, Used};
@@ -34,7 +35,7 @@ fn each_number_at_first_middle_and_last_record() {
 
 #[test]
 fn each_number_in_the_longest_list() {
-    each_fault_in_the_longest(&mut Random::new(202), &asked_faults(), both_refuse);
+    each_fault_in_the_longest(&mut Random::new(202), MOST_RECORDS, &asked_faults(), both_refuse);
 }
 
 #[test]

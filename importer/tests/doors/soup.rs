@@ -8,7 +8,7 @@ use harness::random::Random;
 use harness::settings::Settings;
 use rudzaviks::door::{populate_labels_word, used_registers_word};
 
-fn any_word(random: &mut Random) -> u32 {
+pub fn any_word(random: &mut Random) -> u32 {
     match random.below(8) {
         0..=3 => 0,
         4 => random.below(4),

@@ -1,5 +1,5 @@
 -- `vectors::words` meets its contract: no word that is put changes the length.
-use Prim.Native.Nat.{ℕ, _≤_, _-_}
+use Prim.Native.Nat.{_≤_, _-_}
 use mathlib.Core.Path.{_≡_, refl, ap, _∙_}
 use lib.Dec.{leb}
 use lib.ListN.{length}

@@ -4,7 +4,7 @@ use super::support::{agree, agree_with_room};
 use crate::faulty::*;
 use harness::damage::{Fault, OF_LIST, OF_RECORD};
 use harness::lent::{filled, room};
-use harness::limits;
+use harness::limits::{self, MOST_RECORDS};
 use harness::lists::{list, List, Taste};
 use harness::random::Random;
 use rudzaviks::door::{Answer, Refusal};
@@ -28,7 +28,7 @@ fn each_number_at_first_middle_and_last_record() {
 
 #[test]
 fn each_number_in_the_longest_list() {
-    each_fault_in_the_longest(&mut Random::new(602), &OF_RECORD, refuses(612));
+    each_fault_in_the_longest(&mut Random::new(602), MOST_RECORDS, &OF_RECORD, refuses(612));
 }
 
 #[test]

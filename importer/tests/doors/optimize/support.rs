@@ -7,6 +7,7 @@ use harness::answers;
 use harness::lent::{lengths, started, with_room, Lent};
 use harness::lists::List;
 use harness::random::Random;
+use harness::settings::set_flag;
 use rudzaviks::door::{self, optimize_word, Answer, Counts};
 
 const NAMES: [&str; 5] = ["out", "colours", "ends", "set", "counts"];
@@ -32,7 +33,7 @@ pub fn called(list: &List, flag: u32, lent: &Lent) -> (u64, Lent) {
 
 /// The door answers and leaves what is owed, and leaves the list and the table as they were.
 pub fn agree(random: &mut Random, list: &List, lent: &Lent) -> Answer {
-    let flag = random.pick(&[1, 2, 256, 1 << 31, u32::MAX]);
+    let flag = set_flag(random);
     let mut read = list.clone();
     let (word, left) = called(&read, flag, lent);
     let (owed, starts) = answers::optimize(list, lengths(lent));

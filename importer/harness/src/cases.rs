@@ -1,0 +1,130 @@
+//! Files for two programs that print what becomes of a file, and what they are to print.
+//!
+//! The program `reduce` reads one file. The program `cases` reads many: how many there are, then
+//! each one's length in bytes and its bytes, the numbers being 32-bit words, little-endian. Before
+//! what the former prints for a file it prints `case` and the file's place, from 1 on. All that is
+//! printed is the original's or the questions', none is the verified code's.
+
+use crate::damage::{Fault, OF_RECORD};
+use crate::file::{encode, record_count, with_word, MOST, PAIR_COUNT};
+use crate::lists::{any_list, list, List, Taste};
+use crate::random::Random;
+use crate::record::WORDS;
+use crate::roles::KINDS;
+use crate::settings::{set_flag, Settings};
+use crate::{answers, dozen, limits, run, ten};
+
+const WIDE: Settings =
+    Settings { count_regs: 32, args: 0, complex: false, arm: false, compress: false };
+
+/// What `reduce` prints for a file: a record per line and what was dropped, or the refusal.
+pub fn printed(file: &[u8]) -> String {
+    match answers::passing(file, usize::MAX) {
+        Ok(list) => {
+            let left = run::reduced(&list);
+            let records = left.words.chunks_exact(WORDS).map(|record| spaced(record) + "\n");
+            records.collect::<String>() + "dropped " + &spaced(&left.dropped) + "\n"
+        }
+        Err((number, index)) => format!("refused {number} at {index}\n"),
+    }
+}
+
+fn spaced(numbers: &[u32]) -> String {
+    let numbers: Vec<String> = numbers.iter().map(u32::to_string).collect();
+    numbers.join(" ")
+}
+
+/// The files, always the same ones.
+pub fn cases() -> Vec<Vec<u8>> {
+    let mut random = Random::new(2029);
+    let mut files: Vec<Vec<u8>> = ten::cases().iter().map(|case| encode(&case.list, 1)).collect();
+    add_bad_forms(&mut random, &mut files);
+    add_bad_lists(&mut random, &mut files);
+    add_longer(&mut random, &mut files);
+    files
+}
+
+/// Files that are none, each refused with 3.
+fn add_bad_forms(random: &mut Random, files: &mut Vec<Vec<u8>>) {
+    let list = list(random, &Taste::plain(3));
+    let good = encode(&list, 1);
+    files.push(Vec::new());
+    files.push(good[..good.len() - 1].to_vec());
+    files.push([&good[..], &[0]].concat());
+    for at in [PAIR_COUNT, record_count(&list)] {
+        files.extend([MOST as u32 + 1, u32::MAX].map(|count| with_word(&good, at, count)));
+    }
+    // as long as they say, but one entry over the limit
+    let words = vec![0; (MOST + 1) * WORDS];
+    files.push(encode(&List { table: Vec::new(), words, ..list.clone() }, 1));
+    let table = vec![0; (MOST + 1) * 2];
+    files.push(encode(&List { table, ..list.clone() }, 1));
+    // ahead of question 1
+    let settings = Settings { count_regs: 33, ..list.settings };
+    let high = encode(&List { settings, ..list }, 1);
+    files.push(high[..high.len() - 1].to_vec());
+}
+
+/// Lists with each fault that a file can hold.
+fn add_bad_lists(random: &mut Random, files: &mut Vec<Vec<u8>>) {
+    for fault in [Fault::CountRegs, Fault::Args].into_iter().chain(OF_RECORD) {
+        for start in [0, 10] {
+            let mut list = list(random, &Taste { settings: WIDE, ..Taste::plain(40) });
+            let fits = |at: &usize| fault.put(random, &mut list, *at);
+            (start..40).find(fits).expect("a record that the fault fits");
+            files.push(encode(&list, 1));
+        }
+    }
+}
+
+/// Lists that pass: known ones, random ones, and the longest with the largest table; last that one
+/// with a last record of no kind.
+fn add_longer(random: &mut Random, files: &mut Vec<Vec<u8>>) {
+    let mut lists: Vec<List> = dozen::lists().into_iter().map(|named| named.list).collect();
+    lists.push(limits::tops(WIDE));
+    for _ in 0..12 {
+        lists.push(any_list(random, 40));
+    }
+    for complex in [false, true] {
+        let settings = Settings { count_regs: 5, args: 3, complex, ..WIDE };
+        lists.push(list(random, &Taste { settings, pairs: 40, ..Taste::plain(80) }));
+    }
+    // many moves, loads and saves over many locations, so that many of them are dropped
+    let mut weights = [1; KINDS];
+    weights[4..=8].fill(20);
+    let taste = Taste { pairs: MOST, cells: 60, weights, ..Taste::plain(MOST) };
+    let mut longest = list(random, &taste);
+    lists.push(longest.clone());
+    longest.record_mut(MOST - 1)[0] = 21;
+    lists.push(longest);
+    files.extend(lists.iter().map(|list| encode(list, set_flag(random))));
+}
+
+/// Each stored file's place among the crates, and its bytes.
+pub fn stored() -> [(&'static str, Vec<u8>); 4] {
+    let one = encode(&ten::cases()[1].list, 1);
+    let many = cases();
+    [
+        ("reduce/stdout", printed(&one).into_bytes()),
+        ("reduce/stdin", one),
+        ("cases/stdout", printed_all(&many).into_bytes()),
+        ("cases/stdin", joined(&many)),
+    ]
+}
+
+/// What `cases` reads.
+fn joined(files: &[Vec<u8>]) -> Vec<u8> {
+    let number = |number: usize| (number as u32).to_le_bytes();
+    let mut bytes = number(files.len()).to_vec();
+    for file in files {
+        bytes.extend(number(file.len()));
+        bytes.extend(file);
+    }
+    bytes
+}
+
+/// What `cases` prints.
+fn printed_all(files: &[Vec<u8>]) -> String {
+    let case = |(at, file): (usize, &Vec<u8>)| format!("case {}\n{}", at + 1, printed(file));
+    files.iter().enumerate().map(case).collect()
+}

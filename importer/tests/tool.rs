@@ -1,0 +1,247 @@
+//! The command-line tool, run as a user runs it.
+
+use std::fs;
+use std::io::Write;
+use std::path::PathBuf;
+use std::process::{Command, Stdio};
+
+use rudzaviks::record::Records;
+use rudzaviks::{file, text};
+
+const SAMPLE: &str = concat!(env!("CARGO_MANIFEST_DIR"), "/samples/volume.txt");
+
+/// What a run of the tool gave.
+struct Ran {
+    status: i32,
+    out: Vec<u8>,
+    err: String,
+}
+
+impl Ran {
+    fn out(&self) -> &str {
+        std::str::from_utf8(&self.out).expect("text")
+    }
+
+    /// It is a failure of this status that says all of this, and gives nothing.
+    fn fails(&self, status: i32, said: &[&str]) {
+        assert_eq!((self.status, self.out()), (status, ""), "{}", self.err);
+        for part in said {
+            assert!(self.err.contains(part), "{part:?} is not in {:?}", self.err);
+        }
+    }
+
+    /// It is no failure, and says nothing beside what it gives.
+    fn succeeds(self) -> Ran {
+        assert_eq!((self.status, self.err.as_str()), (0, ""));
+        self
+    }
+}
+
+/// Runs the tool with these words, and this on its standard input.
+fn run(words: &[&str], input: &[u8]) -> Ran {
+    let mut child = Command::new(env!("CARGO_BIN_EXE_rudzaviks"))
+        .args(words)
+        .stdin(Stdio::piped())
+        .stdout(Stdio::piped())
+        .stderr(Stdio::piped())
+        .spawn()
+        .expect("the tool starts");
+    // A tool that reads no input may have ended by now.
+    let _ = child.stdin.take().expect("its input").write_all(input);
+    let output = child.wait_with_output().expect("the tool ends");
+    let err = String::from_utf8(output.stderr).expect("text");
+    Ran { status: output.status.code().expect("a status"), out: output.stdout, err }
+}
+
+/// Runs a command on a list that is given as text.
+fn run_on(command: &str, list: &str) -> Ran {
+    run(&[command, "-"], list.as_bytes())
+}
+
+/// A place for a file of a test.
+fn place(name: &str) -> String {
+    let path = PathBuf::from(env!("CARGO_TARGET_TMPDIR")).join(name);
+    path.into_os_string().into_string().expect("text")
+}
+
+fn lines_fit(text: &str) {
+    for line in text.lines() {
+        assert!(line.len() <= 100 && line.trim_end() == line, "{line:?}");
+    }
+}
+
+#[test]
+fn the_sample_is_shown_before_and_after() {
+    let ran = run(&["reduce", SAMPLE], b"").succeeds();
+    lines_fit(ran.out());
+    for reason in ["does nothing", "is already in", "onto itself", "nothing kept reads"] {
+        assert!(ran.out().contains(reason), "{reason}");
+    }
+    let last = ran.out().lines().last();
+    let counts = "26 instructions before, 19 after; dropped: 1 nop, 3 loads, 1 move, 2 saves";
+    assert_eq!(last, Some(counts));
+}
+
+#[test]
+fn the_readme_shows_what_the_sample_gives() {
+    let readme = fs::read_to_string(concat!(env!("CARGO_MANIFEST_DIR"), "/../README.md"));
+    let readme = readme.expect("the README is there");
+    let mut commands = readme.lines().filter_map(|line| line.strip_prefix("    "));
+    assert_eq!(commands.next(), Some("./rudzaviks reduce importer/samples/volume.txt"));
+    let ran = run(&["reduce", SAMPLE], b"").succeeds();
+    let indent = |line: &str| format!("    {line}").trim_end().to_string() + "\n";
+    let shown: String = ran.out().lines().map(indent).collect();
+    assert!(readme.contains(&shown), "the README should have:\n{shown}");
+}
+
+#[test]
+fn a_list_goes_to_a_file_and_back() {
+    let source = fs::read_to_string(SAMPLE).expect("the sample is there");
+    let parsed = text::parse(&source).expect("the sample is a list");
+    let file = run(&["assemble", SAMPLE], b"").succeeds().out;
+    let records = Records::new(&parsed.list);
+    assert_eq!(file::read(&file), Ok((records, parsed.settings)));
+    let back = run(&["disassemble", "-"], &file).succeeds();
+    assert_eq!(back.out(), text::print(&parsed.list, &parsed.settings));
+    let named = place("volume.words");
+    run(&["assemble", SAMPLE, "-o", &named], b"").succeeds();
+    assert_eq!(fs::read(&named).expect("it was written"), file);
+    let text = place("volume.text");
+    run(&["disassemble", "-o", &text, &named], b"").succeeds();
+    assert_eq!(fs::read_to_string(&text).expect("it was written"), back.out());
+}
+
+#[test]
+fn a_file_is_reduced_as_its_text_is() {
+    let file = run(&["assemble", SAMPLE], b"").succeeds().out;
+    let plain = run(&["reduce", "--plain", SAMPLE], b"").succeeds();
+    let of_file = run(&["reduce", "--plain", "-"], &file).succeeds();
+    assert_eq!(plain.out(), of_file.out());
+    assert_eq!(text::parse(plain.out()).expect("a list").list.len(), 19);
+    let checked = run_on("check", plain.out()).succeeds();
+    assert_eq!(checked.out(), "standard input: passes all nine questions\n");
+    let shown = run(&["reduce", "-"], &file).succeeds();
+    assert!(shown.out().contains("\nrecord  before"), "{}", shown.out());
+    lines_fit(shown.out());
+}
+
+#[test]
+fn long_instructions_are_broken() {
+    let locations = ["Stack[4294967295]"; 12].join(", ");
+    let list = format!(
+        "settings count_regs=32 args=0 complex\n(%10 + %11*im) := Stack[4294967294]\n\
+         (%12 + %13*im) := (%10 + %11*im) Divide (%10 + %11*im)\n\
+         Load Args [{locations}]; complex, true\nStack[4294967294] := (%12 + %13*im)\n"
+    );
+    let ran = run_on("reduce", &list).succeeds();
+    lines_fit(ran.out());
+    assert!(ran.out().ends_with("4 instructions before, 4 after; dropped: nothing\n"));
+}
+
+#[test]
+fn a_mistake_is_shown_with_its_line_and_column() {
+    let list = "settings count_regs=2\n%0 := Mem[0]\n  %1 := %0 Pluss %0 # sum\n";
+    let shown = "    3 |   %1 := %0 Pluss %0 # sum\n      |            ^\n";
+    for command in ["reduce", "check", "assemble", "disassemble"] {
+        let ran = run_on(command, list);
+        ran.fails(2, &["standard input:3:12: expected one of Plus, ", "found `Pluss`\n", shown]);
+    }
+    let path = place("mistake.txt");
+    fs::write(&path, "settings count_regs=2\n%0 = Mem[0]\n").expect("it is written");
+    run(&["check", &path], b"").fails(2, &[&format!("{path}:2:4: expected `:=`, found `=`")]);
+    run_on("check", "").fails(2, &["standard input:1:1: expected the settings first"]);
+}
+
+#[test]
+fn a_refusal_is_explained_with_the_line() {
+    let seven = "settings count_regs=2\n%0 := Mem[0]\n\n%1 := %0 Plus %2\n";
+    let nine = "settings count_regs=2\n%0 := Mem[0]\n7:\nMem[1] := %0  # the sum\n";
+    for command in ["reduce", "check"] {
+        run_on(command, seven).fails(
+            1,
+            &[
+                "standard input:4: refused by question 7 at record 1: it names a general register",
+                "\n    4 | %1 := %0 Plus %2\n      |               ^\n",
+                "count_regs is 2: the general registers are %0 to %1",
+            ],
+        );
+        run_on(command, nine).fails(
+            1,
+            &[
+                "standard input:4: refused by question 9 at record 2: it reads a general register",
+                "\n    4 | Mem[1] := %0  # the sum\n      |           ^\n",
+                "%0 was written at line 2, but a label or call, at line 3, forgets it",
+            ],
+        );
+    }
+    run_on("check", "settings count_regs=2\n%0 := Neg(%1)\n")
+        .fails(1, &["question 9 at record 0", "nothing before it writes %1"]);
+    run_on("check", "settings count_regs=0\n%0 := Mem[0]\n")
+        .fails(1, &["question 7", "there are no general registers"]);
+}
+
+#[test]
+fn refusals_of_every_other_question_are_explained() {
+    run_on("check", "settings count_regs=33\n").fails(1, &["question 1", "count_regs is 33"]);
+    run_on("check", "settings count_regs=1 args=65536\n")
+        .fails(1, &["question 2", "args is 65536"]);
+    let last = "settings count_regs=2\n(%0 + %1*im) := Mem[4294967295]\n";
+    run_on("check", last).fails(1, &["standard input:2: refused by question 8", "needs this cell"]);
+    let long = format!("settings count_regs=1\n{}", "nop\n".repeat(65_537));
+    run_on("check", &long).fails(1, &["question 3", "65537 records and 0 pairs"]);
+    let file = run_on("assemble", "settings count_regs=1\n%0 := Mem[0]\n").succeeds().out;
+    let damaged = |word: usize, value: u32| {
+        let mut file = file.clone();
+        let at = file.len() - 32 + 4 * word;
+        file[at..at + 4].copy_from_slice(&value.to_le_bytes());
+        file
+    };
+    for command in ["reduce", "check", "disassemble"] {
+        let kind =
+            ["refused by question 5 at record 0", "    0 | 21 0 1 0 0 0 0 0", "word 0 is 21"];
+        run(&[command, "-"], &damaged(0, 21)).fails(1, &kind);
+        let field = ["refused by question 6 at record 0", "word 2 is 3 and should be a space"];
+        run(&[command, "-"], &damaged(2, 3)).fails(1, &field);
+        let short = ["refused by question 3", "this one has 59 bytes"];
+        run(&[command, "-"], &file[..59]).fails(1, &short);
+    }
+}
+
+#[test]
+fn a_list_too_long_for_a_file_is_reduced_all_the_same() {
+    let list = format!("settings count_regs=1\n{}%0 := Mem[0]\n", "nop\n".repeat(512));
+    let ran = run_on("reduce", &list).succeeds();
+    assert!(ran.out().ends_with("513 instructions before, 1 after; dropped: 512 nops\n"));
+    run_on("check", &list).succeeds();
+    run_on("assemble", &list).fails(1, &["question 3", "513 records", "a file holds 512"]);
+}
+
+#[test]
+fn help_is_given() {
+    let general = run(&["--help"], b"").succeeds();
+    for words in [&["help"][..], &["-h"]] {
+        assert_eq!(run(words, b"").succeeds().out(), general.out());
+    }
+    for command in ["reduce", "check", "assemble", "disassemble"] {
+        assert!(general.out().contains(&format!("\n  {command} ")), "{command}");
+        let help = run(&[command, "--help"], b"").succeeds();
+        assert!(help.out().starts_with(&format!("usage: rudzaviks {command} ")));
+        assert_eq!(run(&["help", command], b"").succeeds().out(), help.out());
+        lines_fit(help.out());
+    }
+    let form = run(&["help", "text"], b"").succeeds();
+    assert!(form.out().contains("\nFused          %0 := %1 * %2 + %3\n"));
+    lines_fit(form.out());
+}
+
+#[test]
+fn what_can_not_be_done_is_said() {
+    run(&[], b"").fails(2, &["a command is missing", "rudzaviks --help"]);
+    run(&["shorten", "x"], b"").fails(2, &["`shorten` is no command"]);
+    run(&["reduce"], b"").fails(2, &["FILE is missing", "rudzaviks reduce --help"]);
+    run(&["check", "--plain", "-"], b"").fails(2, &["`--plain` is no option of check"]);
+    let nowhere = place("no such folder/list.txt");
+    run(&["check", &nowhere], b"").fails(2, &["can't read", &nowhere]);
+    run(&["disassemble", SAMPLE, "-o", &nowhere], b"").fails(2, &["can't write", &nowhere]);
+    run(&["check", "-"], b"\xff").fails(2, &["neither text (in UTF-8) nor a file of words"]);
+}
