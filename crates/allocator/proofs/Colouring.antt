@@ -117,7 +117,7 @@ module _ (s : Settings) (list table : List ℕ) (h : Passing s list table) (C0 E
 
     module _ {found : Bool} (f : found ≡ foundAt (counted n list table) i (colorTo (counted n list table) i)) where
       -- what the record reads, in the definitions' words
-      reads-are : joined (pairsFrom words 0 members) (readsOf table rec found) ≡ colorTo (counted n list table) (i + 1) .members
+      pub reads-are : joined (pairsFrom words 0 members) (readsOf table rec found) ≡ colorTo (counted n list table) (i + 1) .members
       unfolding readsAt
       reads-are = rw (add-one i, members-next (counted n list table) i, set-pairs (inv .set-holds), f, e) refl
 

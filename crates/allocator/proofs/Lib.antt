@@ -2,6 +2,7 @@
 pub mod Firsts
 pub mod Over
 pub mod Pairs
+pub mod Index
 pub mod Ended
 pub mod Walked
 pub mod Sourced

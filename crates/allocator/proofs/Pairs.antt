@@ -188,7 +188,7 @@ module _ {old words : List ℕ} {count : ℕ} {members : List Loc} (h : SetHolds
 -- the pairs of a table join one after the other, with room for all of them
 module _ {old words : List ℕ} {c : ℕ} (base : List Loc) (table : List ℕ) (first count j : ℕ) (l : j < count)
     (room : length (joined base (pairsFrom table first count)) * 2 ≤ length old) (h : SetHolds old words c (joined base (pairsFrom table first j))) where
-  with-next : join (pairsFrom words 0 c) (pairAt table (first + j)) ≡ joined base (pairsFrom table first (j + 1))
+  pub with-next : join (pairsFrom words 0 c) (pairAt table (first + j)) ≡ joined base (pairsFrom table first (j + 1))
   with-next =
       ap (λ ms. join ms (pairAt table (first + j))) (set-pairs h)
       ∙ (sym (joined-next base (pairsFrom table first j) (pairAt table (first + j)))

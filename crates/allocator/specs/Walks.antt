@@ -1,10 +1,10 @@
 -- For the functions inside: what a walk needs to know, and what it does to the lent slices. `optimize` promises nothing in
 -- these words.
-use Prim.Native.Nat.{ℕ, zero, suc, _+_, _*_, _%_, _<_, _≤_}
+use Prim.Native.Nat.{ℕ, zero, suc, _+_, _*_, _/_, _%_, _<_, _≤_}
 use mathlib.Core.Bool.{Bool, true, false, cond, _&&_, not}
 use mathlib.Core.List.{List, [], _∷_, _++_, map}
 use mathlib.Core.Path.{_≡_}
-use lib.Dec.{leb, eqb}
+use lib.Dec.{leb, ltb, eqb}
 use lib.ListN.{length, getD, set, take, drop}
 use Rattle.mir.specs.declared.config.Settings.{Settings}
 use Rattle.mir.specs.declared.rename.Current.{Current}
@@ -20,11 +20,14 @@ use Rattle.passes.specs.declared.alloc.Fate.{Fate}
 use Rattle.passes.specs.declared.alloc.Fate.the-variants.{Kept, Nop, Load, Move, Save}
 use Rattle.passes.specs.declared.alloc.Held.{Held}
 use Rattle.passes.specs.declared.symbol.Loc.{Loc}
-use Rattle.passes.specs.Color.{Coloring, Setup, setup, choiceFor, afterDest, destsAt, colorTo, choose, chosen, assign, isFound, sourceWord, heldBy, wantX, wantY, wanted, settle, locOf, reads, pairsFrom}
+use Rattle.passes.specs.Color.{Coloring, Setup, setup, choiceFor, afterDest, destsAt, colorTo, choose, chosen, assign, isFound, sourceWord, heldBy, wantX, wantY, wanted, settle, locOf, reads, pairsFrom, isMember}
 use Rattle.passes.specs.Contract.{fateOf, coloursOf, membersOf, countOf, reduced}
 use Rattle.passes.specs.Create.{endsOf}
 use Rattle.passes.specs.Machine.{Passing}
-use Rattle.allocator.specs.Optimize.{over, wordsOf}
+use Rattle.allocator.specs.declared.Answer.the-variants.{Reduced}
+use Rattle.allocator.specs.declared.Counts.{Counts}
+use Rattle.allocator.specs.Optimize.{Lent, countsOf, report, over, wordsOf}
+use Rattle.mir.specs.Answers.{answered}
 
 -- the list passes, with some settings and table
 abbrev pub Passes : List ℕ → Type 0
@@ -38,6 +41,26 @@ Known regs m = (r t : ℕ) → getD regs r Unset ≡ Static t → t < m
 unfoldable pub created : List ℕ → ℕ → ℕ → List ℕ → List ℕ
 created [] n i ends = ends
 created (w ∷ ws) n i ends = created ws (n + one w) i (cond (isGen w) (set ends n i) ends)
+
+-- ---- the index of the read set
+
+-- the index is three rows of bytes, one for each space; the cells that a row has are near, and a byte is 1 if its cell is a
+-- member
+abbrev pub isNear : ℕ → Loc → Bool
+isNear n l = ltb (l .space) 3 && ltb (l .index) n
+
+abbrev pub cellOf : ℕ → Loc → ℕ
+cellOf n l = l .space * n + l .index
+
+abbrev pub rowOf : List ℕ → ℕ
+rowOf seen = length seen / 3
+
+abbrev pub Indexed : List ℕ → List Loc → Type 0
+Indexed seen members = (l : Loc) → isNear (rowOf seen) l ≡ true → eqb (getD seen (cellOf (rowOf seen) l) 0) 1 ≡ isMember l members
+
+-- a location marked in the index
+abbrev pub noted : Loc → List ℕ → List ℕ
+noted l seen = cond (isNear (rowOf seen) l) (set seen (cellOf (rowOf seen) l) 1) seen
 
 -- ---- the third walk
 
@@ -188,3 +211,11 @@ pub record Contracted (s : Settings) (list table : List ℕ) (r : Tally) (ends e
   pub saves : r .saves ≡ countOf Save s list table
   pub ends-left : ends' ≡ over (endsOf list) ends
   pub out-left : out' ≡ over (reduced s list table) out
+
+-- what the walks give, one after the other, on a list that passes
+pub record Reduces (s : Settings) (list table : List ℕ) (held now : Lent) (r : Counts) : Type 0 where
+  pub answer : report (Reduced r) ≡ answered (countsOf s list table)
+  pub out : now .out ≡ over (reduced s list table) (held .out)
+  pub colours : now .colours ≡ over (coloursOf s list table) (held .colours)
+  pub ends : now .ends ≡ over (endsOf list) (held .ends)
+  pub set : now .set ≡ over (wordsOf (membersOf s list table)) (held .set)

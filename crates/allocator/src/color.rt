@@ -27,7 +27,7 @@ ghost use lib.Dec.{leb};
 ghost use mathlib.Core.Path.{_≡_};
 ghost use lib.ListN.{length, getD};
 ghost use Rattle.allocator.specs.Optimize.{over, wordsOf};
-ghost use Rattle.allocator.specs.Walks.{Known, slices, destStep, destSteps, Picks, Ready, sourceWords, wantedBy, recordStep, wasFound, readsOf, markedEnds};
+ghost use Rattle.allocator.specs.Walks.{Indexed, Known, slices, destStep, destSteps, Picks, Ready, sourceWords, wantedBy, recordStep, wasFound, readsOf, markedEnds};
 ghost use Rattle.mir.specs.Questions.{fieldsFit, gensFit, partnerFits};
 ghost use Rattle.mir.specs.Records.{isGen, maxRegs, records};
 ghost use Rattle.mir.specs.Shapes.{any, dests};
@@ -258,23 +258,34 @@ fn is_marked(w: u32, next: usize, ends: &[u32]) -> bool
 }
 
 // Both halves of a location join.
-fn insert_both(set: &mut [u32], members: usize, l: Loc) -> usize
+fn insert_both(set: &mut [u32], members: usize, l: Loc, seen: &mut [u8]) -> usize
+    requires { ⌜ Indexed (now seen) (pairsFrom (now set) 0 members) ⌝ }
     requires { ⌜ l .index < any ⌝ }
     requires { ⌜ members * 2 ≤ length (now set) ⌝ }
     requires { ⌜ length (joined (pairsFrom (now set) 0 members) (l ∷ color.partner l ∷ [])) * 2 ≤ length (now set) ⌝ }
+    ensures index { λ _. ⌜ Indexed (now (seen .exit)) (joined (pairsFrom (now (set .entry)) 0 members) (l ∷ color.partner l ∷ [])) ⌝ }
     ensures count { λ r. ⌜ r ≡ length (joined (pairsFrom (now (set .entry)) 0 members) (l ∷ color.partner l ∷ [])) ⌝ }
     ensures words { λ _. ⌜ now (set .exit) ≡ over (wordsOf (joined (pairsFrom (now (set .entry)) 0 members) (l ∷ color.partner l ∷ []))) (now (set .entry)) ⌝ }
 {
-    let with = insert(set, members, l);
-    insert(set, with, partner(l))
+    let with = insert(set, members, l, seen);
+    insert(set, with, partner(l), seen)
 }
 
 // What a record reads joins the set. Gives the number of members.
-fn read_record(rec: [u32; 8], found: bool, table: &[u32], set: &mut [u32], members: usize) -> usize
+fn read_record(
+    rec: [u32; 8],
+    found: bool,
+    table: &[u32],
+    set: &mut [u32],
+    members: usize,
+    seen: &mut [u8],
+) -> usize
+    requires { ⌜ Indexed (now seen) (pairsFrom (now set) 0 members) ⌝ }
     requires { ⌜ fieldsFit (now table) rec ≡ true ⌝ }
     requires { ⌜ partnerFits rec ≡ true ⌝ }
     requires { ⌜ members * 2 ≤ length (now set) ⌝ }
     requires { ⌜ length (joined (pairsFrom (now set) 0 members) (readsOf (now table) rec found)) * 2 ≤ length (now set) ⌝ }
+    ensures index { λ _. ⌜ Indexed (now (seen .exit)) (joined (pairsFrom (now (set .entry)) 0 members) (readsOf (now (table .entry)) rec found)) ⌝ }
     ensures count { λ r. ⌜ r ≡ length (joined (pairsFrom (now (set .entry)) 0 members) (readsOf (now (table .entry)) rec found)) ⌝ }
     ensures words { λ _. ⌜ now (set .exit) ≡ over (wordsOf (joined (pairsFrom (now (set .entry)) 0 members) (readsOf (now (table .entry)) rec found))) (now (set .entry)) ⌝ }
 {
@@ -285,20 +296,20 @@ fn read_record(rec: [u32; 8], found: bool, table: &[u32], set: &mut [u32], membe
             if found {
                 return members;
             }
-            insert(set, members, loc_of(rec))
+            insert(set, members, loc_of(rec), seen)
         }
         Action::LoadComplex => {
             if found {
                 return members;
             }
-            insert_both(set, members, loc_of(rec))
+            insert_both(set, members, loc_of(rec), seen)
         }
-        Action::LoadArgs => extend(set, members, table, rec[1], rec[2]),
+        Action::LoadArgs => extend(set, members, table, rec[1], rec[2], seen),
         Action::Other => {
             if s.loc == 0 {
                 return members;
             }
-            insert(set, members, loc_of(rec))
+            insert(set, members, loc_of(rec), seen)
         }
         Action::Mov => members,
         Action::Save => members,
@@ -321,12 +332,15 @@ pub fn color(
     colours: &mut [u32],
     ends: &mut [u32],
     set: &mut [u32],
+    seen: &mut [u8],
 ) -> Sizes
+    requires { ⌜ Indexed (now seen) [] ⌝ }
     requires { ⌜ Passing settings (now list) (now table) ⌝ }
     requires { ⌜ records (now list) * 2 ≤ length (now colours) ⌝ }
     requires { ⌜ records (now list) * 2 ≤ length (now ends) ⌝ }
     requires { ⌜ records (now list) * 4 + length (now table) ≤ length (now set) ⌝ }
     requires { ⌜ now ends ≡ over (endsOf (now list)) (now ends) ⌝ }
+    ensures index { λ _. ⌜ Indexed (now (seen .exit)) (membersOf settings (now (list .entry)) (now (table .entry))) ⌝ }
     ensures statics { λ r. ⌜ r .statics ≡ length (coloursOf settings (now (list .entry)) (now (table .entry))) ⌝ }
     ensures members { λ r. ⌜ r .members ≡ length (membersOf settings (now (list .entry)) (now (table .entry))) ⌝ }
     ensures colours { λ _. ⌜ now (colours .exit) ≡ over (coloursOf settings (now (list .entry)) (now (table .entry))) (now (colours .entry)) ⌝ }
@@ -345,7 +359,7 @@ pub fn color(
         let first = statics as usize;
         let colored = color_record(allocs, rec, regs, n, i as u32, first, colours, ends);
         let found = was_found(rec, first, ends);
-        let grown = read_record(rec, found, table, set, members);
+        let grown = read_record(rec, found, table, set, members, seen);
         let next = rename(regs, rec, statics);
         allocs = colored;
         members = grown;

@@ -29,7 +29,7 @@ ghost use mathlib.Core.Path.{_≡_};
 ghost use lib.ListN.{length, getD, set, take, drop};
 ghost use lib.Seq.{sets};
 ghost use Rattle.allocator.specs.Optimize.{over};
-ghost use Rattle.allocator.specs.Walks.{Known, Colored, Contracted, Short, destWords, rewritten, fateIn, unmarked, tallied};
+ghost use Rattle.allocator.specs.Walks.{Indexed, Known, Colored, Contracted, Short, destWords, rewritten, fateIn, unmarked, tallied};
 ghost use Rattle.mir.specs.Folds.{all};
 ghost use Rattle.mir.specs.Questions.{genFits, gensFit, partnerFits};
 ghost use Rattle.mir.specs.Records.{isGen, maxRegs};
@@ -117,33 +117,36 @@ fn is_beyond(fixed: u64, l: Loc) -> bool
 }
 
 // What becomes of a Save to a location.
-fn save_fate(l: Loc, fixed: u64, locs: &[u32], members: usize) -> Fate
+fn save_fate(l: Loc, fixed: u64, locs: &[u32], members: usize, seen: &[u8]) -> Fate
+    requires { ⌜ Indexed (now seen) (pairsFrom (now locs) 0 members) ⌝ }
     requires { ⌜ members * 2 ≤ length (now locs) ⌝ }
     ensures { λ r. ⌜ r ≡ cond (isBeyond fixed l && not (isMember l (pairsFrom (now (locs .entry)) 0 members))) fates.Save fates.Kept ⌝ }
 {
     if !is_beyond(fixed, l) {
         return Fate::Kept;
     }
-    if contains(locs, members, l) {
+    if contains(locs, members, l, seen) {
         return Fate::Kept;
     }
     Fate::Save
 }
 
 // Whether both halves of a location are members.
-fn contains_both(l: Loc, locs: &[u32], members: usize) -> bool
+fn contains_both(l: Loc, locs: &[u32], members: usize, seen: &[u8]) -> bool
+    requires { ⌜ Indexed (now seen) (pairsFrom (now locs) 0 members) ⌝ }
     requires { ⌜ l .index < any ⌝ }
     requires { ⌜ members * 2 ≤ length (now locs) ⌝ }
     ensures { λ r. ⌜ r ≡ (isMember l (pairsFrom (now (locs .entry)) 0 members) && isMember (color.partner l) (pairsFrom (now (locs .entry)) 0 members)) ⌝ }
 {
-    if !contains(locs, members, l) {
+    if !contains(locs, members, l, seen) {
         return false;
     }
-    contains(locs, members, partner(l))
+    contains(locs, members, partner(l), seen)
 }
 
 // What becomes of a SaveComplex to a location.
-fn save_complex_fate(l: Loc, fixed: u64, locs: &[u32], members: usize) -> Fate
+fn save_complex_fate(l: Loc, fixed: u64, locs: &[u32], members: usize, seen: &[u8]) -> Fate
+    requires { ⌜ Indexed (now seen) (pairsFrom (now locs) 0 members) ⌝ }
     requires { ⌜ l .index < any ⌝ }
     requires { ⌜ members * 2 ≤ length (now locs) ⌝ }
     ensures { λ r. ⌜ r ≡ cond (isBeyond fixed l && not (isMember l (pairsFrom (now (locs .entry)) 0 members) && isMember (color.partner l) (pairsFrom (now (locs .entry)) 0 members))) fates.Save fates.Kept ⌝ }
@@ -151,14 +154,22 @@ fn save_complex_fate(l: Loc, fixed: u64, locs: &[u32], members: usize) -> Fate
     if !is_beyond(fixed, l) {
         return Fate::Kept;
     }
-    if contains_both(l, locs, members) {
+    if contains_both(l, locs, members, seen) {
         return Fate::Kept;
     }
     Fate::Save
 }
 
 // What becomes of a record in colours; `found` says that its location was found.
-fn fate_of(rec: [u32; 8], found: bool, fixed: u64, locs: &[u32], members: usize) -> Fate
+fn fate_of(
+    rec: [u32; 8],
+    found: bool,
+    fixed: u64,
+    locs: &[u32],
+    members: usize,
+    seen: &[u8],
+) -> Fate
+    requires { ⌜ Indexed (now seen) (pairsFrom (now locs) 0 members) ⌝ }
     requires { ⌜ partnerFits rec ≡ true ⌝ }
     requires { ⌜ members * 2 ≤ length (now locs) ⌝ }
     ensures { λ r. ⌜ r ≡ fateOf fixed (pairsFrom (now (locs .entry)) 0 members) found rec ⌝ }
@@ -178,8 +189,8 @@ fn fate_of(rec: [u32; 8], found: bool, fixed: u64, locs: &[u32], members: usize)
             }
             Fate::Kept
         }
-        SAVE => save_fate(loc_of(rec), fixed, locs, members),
-        SAVE_COMPLEX => save_complex_fate(loc_of(rec), fixed, locs, members),
+        SAVE => save_fate(loc_of(rec), fixed, locs, members, seen),
+        SAVE_COMPLEX => save_complex_fate(loc_of(rec), fixed, locs, members, seen),
         _ => Fate::Kept,
     }
 }
@@ -307,7 +318,9 @@ fn contract_record(
     members: usize,
     tally: Tally,
     out: &mut [u32],
+    seen: &[u8],
 ) -> Tally
+    requires { ⌜ Indexed (now seen) (pairsFrom (now locs) 0 members) ⌝ }
     requires { ⌜ gensFit maxRegs rec ≡ true ⌝ }
     requires { ⌜ partnerFits rec ≡ true ⌝ }
     requires { ⌜ next + 2 ≤ length (now colours) ⌝ }
@@ -323,7 +336,7 @@ fn contract_record(
     let found = was_found(rec, next, ends);
     unmark(rec, next, ends);
     let written = rewrite(rec, regs, next, colours);
-    let fate = fate_of(written, found, fixed, locs, members);
+    let fate = fate_of(written, found, fixed, locs, members, seen);
     keep(fate, written, (tally.records as usize) * 8, out);
     add_fate(tally, fate)
 }
@@ -337,7 +350,9 @@ pub fn contract(
     locs: &[u32],
     members: usize,
     out: &mut [u32],
+    seen: &[u8],
 ) -> Tally
+    requires { ⌜ Indexed (now seen) (pairsFrom (now locs) 0 members) ⌝ }
     requires { ⌜ ((table : List ℕ) × Colored settings (now list) table (now colours) (now ends) (now locs) members) ⌝ }
     requires { ⌜ length (now list) ≤ length (now out) ⌝ }
     ensures { λ r. ⌜ ((table : List ℕ) → Colored settings (now (list .entry)) table (now (colours .entry)) (now (ends .entry)) (now (locs .entry)) members → Contracted settings (now (list .entry)) table r (now (ends .entry)) (now (ends .exit)) (now (out .entry)) (now (out .exit))) ⌝ }
@@ -368,6 +383,7 @@ pub fn contract(
             members,
             tally,
             out,
+            seen,
         );
         let next = rename(regs, rec, statics);
         tally = added;

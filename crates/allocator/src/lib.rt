@@ -5,11 +5,10 @@ ghost use mathlib.Core.List.{[], _∷_};
 ghost use mathlib.Core.Path.{_≡_};
 ghost use lib.ListN.{length};
 ghost use Rattle.allocator.specs.declared.Answer.the-variants.{Reduced};
-ghost use Rattle.allocator.specs.Optimize.{Optimized, lent, roomFor, countsOf, report, over, wordsOf};
+ghost use Rattle.allocator.specs.Optimize.{Optimized, lent, roomFor, report};
+ghost use Rattle.allocator.specs.Walks.{Indexed, Reduces};
 ghost use Rattle.mir.specs.Answers.{answered};
 ghost use Rattle.mir.specs.Shapes.{any};
-ghost use Rattle.passes.specs.Contract.{reduced, coloursOf, membersOf};
-ghost use Rattle.passes.specs.Create.{endsOf};
 ghost use Rattle.passes.specs.Machine.{Passing};
 
 pub mod color;
@@ -77,7 +76,66 @@ fn counts_of(sizes: Sizes, tally: Tally) -> Counts
     }
 }
 
-// The four walks over a list that passes; the first, which renames, is part of each of the others.
+// The four walks over a list that passes; the first, which renames, is part of each of the others. The index of the read set
+// starts empty.
+fn walk(
+    list: &[u32],
+    table: &[u32],
+    settings: Settings,
+    out: &mut [u32],
+    colours: &mut [u32],
+    ends: &mut [u32],
+    set: &mut [u32],
+    seen: &mut [u8],
+) -> Counts
+    requires { ⌜ Indexed (now seen) [] ⌝ }
+    requires { ⌜ Passing settings (now list) (now table) ⌝ }
+    requires { ⌜ roomFor (length (now list)) (length (now table)) (length (now out)) (length (now colours)) (length (now ends)) (length (now set)) ≡ true ⌝ }
+    ensures { λ r. ⌜ Reduces settings (now (list .entry)) (now (table .entry)) (lent (now (out .entry)) (now (colours .entry)) (now (ends .entry)) (now (set .entry))) (lent (now (out .exit)) (now (colours .exit)) (now (ends .exit)) (now (set .exit))) r ⌝ }
+{
+    create::create(list, ends);
+    let sizes = color::color(list, table, settings, colours, ends, set, seen);
+    let tally = contract::contract(list, settings, colours, ends, set, sizes.members, out, seen);
+    counts_of(sizes, tally)
+}
+
+// With an index for the first 4,096 cells of each space, which is soon cleared.
+fn reduce_short(
+    list: &[u32],
+    table: &[u32],
+    settings: Settings,
+    out: &mut [u32],
+    colours: &mut [u32],
+    ends: &mut [u32],
+    set: &mut [u32],
+) -> Counts
+    requires { ⌜ Passing settings (now list) (now table) ⌝ }
+    requires { ⌜ roomFor (length (now list)) (length (now table)) (length (now out)) (length (now colours)) (length (now ends)) (length (now set)) ≡ true ⌝ }
+    ensures { λ r. ⌜ Reduces settings (now (list .entry)) (now (table .entry)) (lent (now (out .entry)) (now (colours .entry)) (now (ends .entry)) (now (set .entry))) (lent (now (out .exit)) (now (colours .exit)) (now (ends .exit)) (now (set .exit))) r ⌝ }
+{
+    let mut seen = [0u8; 12_288];
+    walk(list, table, settings, out, colours, ends, set, &mut seen)
+}
+
+// With an index for the first 65,536 cells of each space.
+fn reduce_long(
+    list: &[u32],
+    table: &[u32],
+    settings: Settings,
+    out: &mut [u32],
+    colours: &mut [u32],
+    ends: &mut [u32],
+    set: &mut [u32],
+) -> Counts
+    requires { ⌜ Passing settings (now list) (now table) ⌝ }
+    requires { ⌜ roomFor (length (now list)) (length (now table)) (length (now out)) (length (now colours)) (length (now ends)) (length (now set)) ≡ true ⌝ }
+    ensures { λ r. ⌜ Reduces settings (now (list .entry)) (now (table .entry)) (lent (now (out .entry)) (now (colours .entry)) (now (ends .entry)) (now (set .entry))) (lent (now (out .exit)) (now (colours .exit)) (now (ends .exit)) (now (set .exit))) r ⌝ }
+{
+    let mut seen = [0u8; 196_608];
+    walk(list, table, settings, out, colours, ends, set, &mut seen)
+}
+
+// The walks over a list that passes.
 fn reduce(
     list: &[u32],
     table: &[u32],
@@ -89,16 +147,12 @@ fn reduce(
 ) -> Counts
     requires { ⌜ Passing settings (now list) (now table) ⌝ }
     requires { ⌜ roomFor (length (now list)) (length (now table)) (length (now out)) (length (now colours)) (length (now ends)) (length (now set)) ≡ true ⌝ }
-    ensures answer { λ r. ⌜ report (Reduced r) ≡ answered (countsOf settings (now (list .entry)) (now (table .entry))) ⌝ }
-    ensures out { λ _. ⌜ now (out .exit) ≡ over (reduced settings (now (list .entry)) (now (table .entry))) (now (out .entry)) ⌝ }
-    ensures colours { λ _. ⌜ now (colours .exit) ≡ over (coloursOf settings (now (list .entry)) (now (table .entry))) (now (colours .entry)) ⌝ }
-    ensures ends { λ _. ⌜ now (ends .exit) ≡ over (endsOf (now (list .entry))) (now (ends .entry)) ⌝ }
-    ensures set { λ _. ⌜ now (set .exit) ≡ over (wordsOf (membersOf settings (now (list .entry)) (now (table .entry)))) (now (set .entry)) ⌝ }
+    ensures { λ r. ⌜ Reduces settings (now (list .entry)) (now (table .entry)) (lent (now (out .entry)) (now (colours .entry)) (now (ends .entry)) (now (set .entry))) (lent (now (out .exit)) (now (colours .exit)) (now (ends .exit)) (now (set .exit))) r ⌝ }
 {
-    create::create(list, ends);
-    let sizes = color::color(list, table, settings, colours, ends, set);
-    let tally = contract::contract(list, settings, colours, ends, set, sizes.members, out);
-    counts_of(sizes, tally)
+    if list.len() <= 32_768 {
+        return reduce_short(list, table, settings, out, colours, ends, set);
+    }
+    reduce_long(list, table, settings, out, colours, ends, set)
 }
 
 // The list reduced, at the start of `out`; each static's colour and end, and the read set.

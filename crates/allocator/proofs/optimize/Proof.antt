@@ -51,7 +51,7 @@ returns : tie.Need-returns
 returns c =
     let a = c .before .before .before .before .before .before .before .before .before .before .before .before .before .before .before .before .before .before .before .before .before .before .before in
     let e = c .before .before .before .before .before .before .before .before .reduce .ensures in
-    passed-promise (a .args .settings) (a .args .list .now) (a .args .table .now) (lent (a .args .out .now) (a .args .colours .now) (a .args .ends .now) (a .args .set .now)) (lent (c .before .before .before .before .before .before .before .before .reduce .last .1 .1 .1 .0) (c .before .before .before .before .before .before .before .before .reduce .last .1 .1 .1 .1 .0) (c .before .before .before .before .before .before .before .before .reduce .last .1 .1 .1 .1 .1 .0) (c .before .before .before .before .before .before .before .before .reduce .last .1 .1 .1 .1 .1 .1 .0)) (Reduced (c .before .before .before .before .before .before .before .before .reduce .result)) (sym (verdict-in (c .before .before .before .before .before .before .before .before .before .before .before .before .before .before .before)) ∙ c .before .before .before .before .before .before .before .before .before .before .before .before .before .enum-told .given .1) (e .0) (e .1 .0) (e .1 .1 .0) (e .1 .1 .1 .0) (e .1 .1 .1 .1)
+    passed-promise (a .args .settings) (a .args .list .now) (a .args .table .now) (lent (a .args .out .now) (a .args .colours .now) (a .args .ends .now) (a .args .set .now)) (lent (c .before .before .before .before .before .before .before .before .reduce .last .1 .1 .1 .0) (c .before .before .before .before .before .before .before .before .reduce .last .1 .1 .1 .1 .0) (c .before .before .before .before .before .before .before .before .reduce .last .1 .1 .1 .1 .1 .0) (c .before .before .before .before .before .before .before .before .reduce .last .1 .1 .1 .1 .1 .1 .0)) (Reduced (c .before .before .before .before .before .before .before .before .reduce .result)) (sym (verdict-in (c .before .before .before .before .before .before .before .before .before .before .before .before .before .before .before)) ∙ c .before .before .before .before .before .before .before .before .before .before .before .before .before .enum-told .given .1) (e .answer) (e .out) (e .colours) (e .ends) (e .set)
 
 returns-2 : tie.Need-returns-2
 returns-2 c =

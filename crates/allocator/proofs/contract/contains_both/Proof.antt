@@ -22,7 +22,7 @@ contains-requires-2 c κs = search needs
 
 returns-2 : tie.Need-returns-2
 returns-2 c =
-    let a = c .before .before .before .before .before .args in
+    let a = c .before .before .before .before .before .before .args in
     rw (sym (c .before .before .before .contains .ensures) ∙ not-false _ (c .before .before .if1 .left))
     (c .contains2 .ensures ∙ ap (λ (m : Loc). isMember m (pairsFrom (now (a .locs)) 0 (a .members))) (c .before .partner .ensures))
 

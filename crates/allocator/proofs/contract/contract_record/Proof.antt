@@ -26,8 +26,8 @@ rewrite-requires c κs = search needs
 
 fate-of-requires : tie.Need-fate-of-requires
 fate-of-requires c κs =
-    let a = c .before .before .before .before .before .before .before .before .before .before .before in
-    (rw (c .rewrite .ensures) (written-partner (a .args .regs) (a .args .next) (a .args .colours .now) (a .args .rec) (a .good .0 .1 .0 .1) (a .pre .1 .0)), a .pre .1 .1 .1 .1 .1 .0)
+    let a = c .before .before .before .before .before .before .before .before .before .before .before .before in
+    (a .pre .0, (rw (c .rewrite .ensures) (written-partner (a .args .regs) (a .args .next) (a .args .colours .now) (a .args .rec) (a .good .0 .1 .0 .1) (a .pre .1 .1 .0)), a .pre .1 .1 .1 .1 .1 .1 .0))
 
 cast-keep : tie.Need-cast-keep
 cast-keep c = search needs
@@ -36,10 +36,10 @@ mul-keep : tie.Need-mul-keep
 mul-keep c = search needs
 
 keep-requires : tie.Need-keep-requires
-keep-requires c κs = search needs
+keep-requires c κs = c .before .before .before .before .before .before .before .before .before .before .before .before .before .before .before .pre .1 .1 .1 .1 .1 .1 .1 .1
 
 add-fate-requires : tie.Need-add-fate-requires
-add-fate-requires c κs = c .before .before .before .before .before .before .before .before .before .before .before .before .before .before .before .before .before .pre .1 .1 .1 .1 .1 .1 .0
+add-fate-requires c κs = c .before .before .before .before .before .before .before .before .before .before .before .before .before .before .before .before .before .before .pre .1 .1 .1 .1 .1 .1 .1 .0
 
 same-length : tie.Need-same-length
 same-length c = search needs
@@ -48,16 +48,16 @@ same-length-2 : tie.Need-same-length-2
 same-length-2 c = search needs
 
 -- what becomes of the record, by what the calls gave
-fate-is : (c : tie.After-add-fate) → c .before .before .before .before .before .before .fate-of .result ≡ fateIn (c .before .before .before .before .before .before .before .before .before .before .before .before .before .before .before .before .before .before .args .fixed) (pairsFrom (c .before .before .before .before .before .before .before .before .before .before .before .before .before .before .before .before .before .before .args .locs .now) 0 (c .before .before .before .before .before .before .before .before .before .before .before .before .before .before .before .before .before .before .args .members)) (c .before .before .before .before .before .before .before .before .before .before .before .before .before .before .before .before .before .before .args .regs) (c .before .before .before .before .before .before .before .before .before .before .before .before .before .before .before .before .before .before .args .next) (c .before .before .before .before .before .before .before .before .before .before .before .before .before .before .before .before .before .before .args .colours .now) (c .before .before .before .before .before .before .before .before .before .before .before .before .before .before .before .before .before .before .args .ends .now) (c .before .before .before .before .before .before .before .before .before .before .before .before .before .before .before .before .before .before .args .rec)
+fate-is : (c : tie.After-add-fate) → c .before .before .before .before .before .before .fate-of .result ≡ fateIn (c .before .before .before .before .before .before .before .before .before .before .before .before .before .before .before .before .before .before .before .args .fixed) (pairsFrom (c .before .before .before .before .before .before .before .before .before .before .before .before .before .before .before .before .before .before .before .args .locs .now) 0 (c .before .before .before .before .before .before .before .before .before .before .before .before .before .before .before .before .before .before .before .args .members)) (c .before .before .before .before .before .before .before .before .before .before .before .before .before .before .before .before .before .before .before .args .regs) (c .before .before .before .before .before .before .before .before .before .before .before .before .before .before .before .before .before .before .before .args .next) (c .before .before .before .before .before .before .before .before .before .before .before .before .before .before .before .before .before .before .before .args .colours .now) (c .before .before .before .before .before .before .before .before .before .before .before .before .before .before .before .before .before .before .before .args .ends .now) (c .before .before .before .before .before .before .before .before .before .before .before .before .before .before .before .before .before .before .before .args .rec)
 fate-is c =
-    let a = c .before .before .before .before .before .before .before .before .before .before .before .before .before .before .before .before .before .before in
+    let a = c .before .before .before .before .before .before .before .before .before .before .before .before .before .before .before .before .before .before .before in
     c .before .before .before .before .before .before .fate-of .ensures
     ∙ (ap (λ f. fateOf (a .args .fixed) (pairsFrom (a .args .locs .now) 0 (a .args .members)) f (c .before .before .before .before .before .before .before .rewrite .result)) (c .before .before .before .before .before .before .before .before .before .before .before .before .was-found .ensures)
     ∙ ap (fateOf (a .args .fixed) (pairsFrom (a .args .locs .now) 0 (a .args .members)) (wasFound (dests (a .args .rec)) (a .args .next) (a .args .ends .now))) (c .before .before .before .before .before .before .before .rewrite .ensures))
 
 returns : tie.Need-returns
 returns c =
-    let a = c .before .before .before .before .before .before .before .before .before .before .before .before .before .before .before .before .before .before in (
+    let a = c .before .before .before .before .before .before .before .before .before .before .before .before .before .before .before .before .before .before .before in (
       c .add-fate .ensures ∙ ap (λ f. tallied f (a .args .tally)) (fate-is c),
       (
         c .before .before .before .before .before .before .before .before .before .before .unmark .ensures,

@@ -21,7 +21,7 @@ array-read-kind c = search needs
 
 returns : tie.Need-returns
 returns c =
-    let a = c .before .before .before .args in
+    let a = c .before .before .before .before .args in
     sym (⊎-elim (λ (e : wordAt (a .t1) 0 ≡ 5). fate-load (a .fixed) (pairsFrom (now (a .locs)) 0 (a .members)) (a .found) (a .t1) e) (λ (e : wordAt (a .t1) 0 ≡ 7). fate-load-complex (a .fixed) (pairsFrom (now (a .locs)) 0 (a .members)) (a .found) (a .t1) e) (c .before .match .keys2) ∙ ap (λ b. cond b Load Kept) (c .if1 .taken))
 
 array-read-if2 : tie.Need-array-read-if2
@@ -32,7 +32,7 @@ array-read-if2-2 c = search needs
 
 returns-2 : tie.Need-returns-2
 returns-2 c =
-    let a = c .before .before .before .args in
+    let a = c .before .before .before .before .args in
     sym (fate-mov (a .fixed) (pairsFrom (now (a .locs)) 0 (a .members)) (a .found) (a .t1) (c .before .match .keys3) ∙ ap (λ b. cond b Move Kept) (eq-eqb _ _ (c .if2 .taken)))
 
 loc-of-requires : tie.Need-loc-of-requires
@@ -47,38 +47,38 @@ loc-of-requires-2 c κs = search needs
 save-complex-fate-requires : tie.Need-save-complex-fate-requires
 unfolding shapeOf
 save-complex-fate-requires c κs =
-    let a = c .before .before .before in
+    let a = c .before .before .before .before in
     let k : wordAt (a .args .t1) 0 ≡ 8 = c .before .match .keys5 in
-    (rw (c .loc-of2 .ensures) (partner-below (a .args .t1) (ap (λ n. isComplex (shapeOf n .action)) k) (a .pre .0)), a .pre .1)
+    (a .pre .0, (rw (c .loc-of2 .ensures) (partner-below (a .args .t1) (ap (λ n. isComplex (shapeOf n .action)) k) (a .pre .1 .0)), a .pre .1 .1))
 
 returns-3 : tie.Need-returns-3
 returns-3 c =
-    let a = c .before .before .args in
+    let a = c .before .before .before .args in
     sym (fate-nop (a .fixed) (pairsFrom (now (a .locs)) 0 (a .members)) (a .found) (a .t1) (c .match .keys1))
 
 returns-4 : tie.Need-returns-4
 returns-4 c =
-    let a = c .before .before .before .args in
+    let a = c .before .before .before .before .args in
     sym (⊎-elim (λ (e : wordAt (a .t1) 0 ≡ 5). fate-load (a .fixed) (pairsFrom (now (a .locs)) 0 (a .members)) (a .found) (a .t1) e) (λ (e : wordAt (a .t1) 0 ≡ 7). fate-load-complex (a .fixed) (pairsFrom (now (a .locs)) 0 (a .members)) (a .found) (a .t1) e) (c .before .match .keys2) ∙ ap (λ b. cond b Load Kept) (c .if1 .left))
 
 returns-5 : tie.Need-returns-5
 returns-5 c =
-    let a = c .before .before .before .args in
+    let a = c .before .before .before .before .args in
     sym (fate-mov (a .fixed) (pairsFrom (now (a .locs)) 0 (a .members)) (a .found) (a .t1) (c .before .match .keys3) ∙ ap (λ b. cond b Move Kept) (ne-eqb _ _ (c .if2 .left)))
 
 returns-6 : tie.Need-returns-6
 returns-6 c =
-    let a = c .before .before .before .before .args in
+    let a = c .before .before .before .before .before .args in
     rw (fate-save (a .fixed) (pairsFrom (now (a .locs)) 0 (a .members)) (a .found) (a .t1) (c .before .before .match .keys4)) (rw (c .before .loc-of .ensures) at (c .save-fate .ensures))
 
 returns-7 : tie.Need-returns-7
 returns-7 c =
-    let a = c .before .before .before .before .args in
+    let a = c .before .before .before .before .before .args in
     rw (fate-save-complex (a .fixed) (pairsFrom (now (a .locs)) 0 (a .members)) (a .found) (a .t1) (c .before .before .match .keys5)) (rw (c .before .loc-of2 .ensures) at (c .save-complex-fate .ensures))
 
 returns-8 : tie.Need-returns-8
 returns-8 c =
-    let a = c .before .before .args in
+    let a = c .before .before .before .args in
     let r = c .match .rest in
     sym (fate-rest (a .fixed) (pairsFrom (now (a .locs)) 0 (a .members)) (a .found) (a .t1) (r .0 .0 .0 .0 .1) (λ e. r .0 .0 .0 .1 (inl e)) (λ e. r .0 .0 .0 .1 (inr e)) (r .0 .0 .1) (r .0 .1) (r .1))
 

@@ -1,67 +1,39 @@
--- `allocator::locs::contains` meets its contract: no pair passed is the location.
--- By the laws of pairs.
-use Prim.Native.Nat.{_≤_, _-_}
-use mathlib.Core.Bool.{true, false}
-use mathlib.Core.Path.{_≡_, sym, ap, _∙_}
+-- `allocator::locs::contains` meets its contract: the index tells of a near location, and the scan of any other.
+use Rattle.allocator.specs.Walks.{rowOf}
 use native.Mathlib.Omega.{arith}
-use denote.Ref.{now}
-use Rattle.passes.specs.Color.{sameLoc, isMember, pairsFrom}
-use Rattle.allocator.proofs.Pairs.{member-none, member-more, member-stays}
+use Rattle.allocator.proofs.Index.{cell-in, row-in}
+use mathlib.Core.Path.{sym, _∙_}
 use borrow.Author.Needs.{needs}
 use Rattle.allocator.proofs.locs.contains.Statement.{statement}
 use Rattle.allocator.proofs.locs.contains.Tie as tie
 
-abbrev Inv-loop : tie.InvT-loop
-Inv-loop set members l j₀ j = (j ≤ members) × (isMember l (pairsFrom set 0 j) ≡ false)
+is-near-requires : tie.Need-is-near-requires
+is-near-requires c κs = search needs
 
-abbrev μ-loop : tie.MeasureT-loop
-μ-loop set members l j₀ j = members - j
+cell-requires : tie.Need-cell-requires
+cell-requires c κs = (sym (c .before .is-near .ensures) ∙ c .if1 .taken, search needs)
 
-loop-holds : tie.Need-loop-holds Inv-loop μ-loop
-loop-holds c = (search needs, sym (member-none _ _))
+shared-slice-read-result : tie.Need-shared-slice-read-result
+shared-slice-read-result c =
+    let seen = c .before .before .before .before .before .before .args .seen .now in
+    rw (c .before .cell .ensures) (omega (arith, cell-in (rowOf seen) (c .before .before .before .before .before .before .args .l) (sym (c .before .before .before .is-near .ensures) ∙ c .before .before .if1 .taken), row-in seen))
 
-loc-at-requires : tie.Need-loc-at-requires Inv-loop μ-loop
-loc-at-requires c κs = search needs
+returns : tie.Need-returns
+returns c = rw (c .before .cell .ensures) (c .before .before .before .before .before .before .pre .0 (c .before .before .before .before .before .before .args .l) (sym (c .before .before .before .is-near .ensures) ∙ c .before .before .if1 .taken))
 
-same-loc-requires : tie.Need-same-loc-requires Inv-loop μ-loop
-same-loc-requires c κs = search needs
+scan-requires : tie.Need-scan-requires
+scan-requires c κs = search needs
 
-returns : tie.Need-returns Inv-loop μ-loop
-returns c =
-    let b = c .before .before .before .before in
-    let a = b .before .before .args in
-    let e = sym (ap (λ m. sameLoc m (a .l)) (c .before .before .loc-at .ensures)) ∙ (sym (c .before .same-loc .ensures) ∙ c .if1 .taken) in
-    sym (member-stays (now (a .set)) (a .l) _ (a .members) (omega (arith, c .before .before .before .loop-test .taken)) (member-more (now (a .set)) (a .l) (b .loop .j) true (b .loop .inv .1) e))
-
-add-j : tie.Need-add-j Inv-loop μ-loop
-add-j c = search needs
-
-loop-less : tie.Need-loop-less Inv-loop μ-loop
-loop-less c = search needs
-
-loop-again : tie.Need-loop-again Inv-loop μ-loop
-loop-again c =
-    let b = c .before .before .before .before in
-    let a = b .before .before .args in
-    let e = sym (ap (λ m. sameLoc m (a .l)) (c .before .before .loc-at .ensures)) ∙ (sym (c .before .same-loc .ensures) ∙ c .if1 .left) in
-    (search needs, member-more (now (a .set)) (a .l) (b .loop .j) false (b .loop .inv .1) e)
-
-returns-2 : tie.Need-returns-2 Inv-loop μ-loop
-returns-2 c =
-    let e : c .before .loop .j ≡ c .before .before .before .args .members = omega arith in
-    sym (rw e at (c .before .loop .inv .1))
+returns-2 : tie.Need-returns-2
+returns-2 c = search needs
 
 pub contains-spec : {M : Type 1} → statement M
 contains-spec =
     tie.close
     (tie.spec
-    Inv-loop
-    μ-loop
-    loop-holds
-    loc-at-requires
-    same-loc-requires
+    is-near-requires
+    cell-requires
+    shared-slice-read-result
     returns
-    add-j
-    loop-less
-    loop-again
+    scan-requires
     returns-2)

@@ -1,0 +1,67 @@
+-- `allocator::locs::scan` meets its contract: no pair passed is the location.
+-- By the laws of pairs.
+use Prim.Native.Nat.{_≤_, _-_}
+use mathlib.Core.Bool.{true, false}
+use mathlib.Core.Path.{_≡_, sym, ap, _∙_}
+use native.Mathlib.Omega.{arith}
+use denote.Ref.{now}
+use Rattle.passes.specs.Color.{sameLoc, isMember, pairsFrom}
+use Rattle.allocator.proofs.Pairs.{member-none, member-more, member-stays}
+use borrow.Author.Needs.{needs}
+use Rattle.allocator.proofs.locs.scan.Statement.{statement}
+use Rattle.allocator.proofs.locs.scan.Tie as tie
+
+abbrev Inv-loop : tie.InvT-loop
+Inv-loop set members l j₀ j = (j ≤ members) × (isMember l (pairsFrom set 0 j) ≡ false)
+
+abbrev μ-loop : tie.MeasureT-loop
+μ-loop set members l j₀ j = members - j
+
+loop-holds : tie.Need-loop-holds Inv-loop μ-loop
+loop-holds c = (search needs, sym (member-none _ _))
+
+loc-at-requires : tie.Need-loc-at-requires Inv-loop μ-loop
+loc-at-requires c κs = search needs
+
+same-loc-requires : tie.Need-same-loc-requires Inv-loop μ-loop
+same-loc-requires c κs = search needs
+
+returns : tie.Need-returns Inv-loop μ-loop
+returns c =
+    let b = c .before .before .before .before in
+    let a = b .before .before .args in
+    let e = sym (ap (λ m. sameLoc m (a .l)) (c .before .before .loc-at .ensures)) ∙ (sym (c .before .same-loc .ensures) ∙ c .if1 .taken) in
+    sym (member-stays (now (a .set)) (a .l) _ (a .members) (omega (arith, c .before .before .before .loop-test .taken)) (member-more (now (a .set)) (a .l) (b .loop .j) true (b .loop .inv .1) e))
+
+add-j : tie.Need-add-j Inv-loop μ-loop
+add-j c = search needs
+
+loop-less : tie.Need-loop-less Inv-loop μ-loop
+loop-less c = search needs
+
+loop-again : tie.Need-loop-again Inv-loop μ-loop
+loop-again c =
+    let b = c .before .before .before .before in
+    let a = b .before .before .args in
+    let e = sym (ap (λ m. sameLoc m (a .l)) (c .before .before .loc-at .ensures)) ∙ (sym (c .before .same-loc .ensures) ∙ c .if1 .left) in
+    (search needs, member-more (now (a .set)) (a .l) (b .loop .j) false (b .loop .inv .1) e)
+
+returns-2 : tie.Need-returns-2 Inv-loop μ-loop
+returns-2 c =
+    let e : c .before .loop .j ≡ c .before .before .before .args .members = omega arith in
+    sym (rw e at (c .before .loop .inv .1))
+
+pub scan-spec : {M : Type 1} → statement M
+scan-spec =
+    tie.close
+    (tie.spec
+    Inv-loop
+    μ-loop
+    loop-holds
+    loc-at-requires
+    same-loc-requires
+    returns
+    add-j
+    loop-less
+    loop-again
+    returns-2)
