@@ -30,7 +30,7 @@ use Rattle.allocator.specs.Walks.{Known, Colored, Contracted, Short, was
 use Rattle.allocator.proofs.Grown.{Grows, grows-get, founds-grow, rewritten-out}
 use Rattle.allocator.proofs.Marked.{marked-length}
 use Rattle.allocator.proofs.Over.{over-length, over-after}
-use Rattle.allocator.proofs.Pairs.{pairs-back, words-length}
+use Rattle.allocator.proofs.Pairs.{set-members, words-length}
 use Rattle.allocator.proofs.Stepped.{all-statics, small, room, founds-length, found-flags}
 use Rattle.allocator.proofs.Unmarked.{seen, seen-none, seen-at, seen-all, unmark-record}
 use Rattle.allocator.proofs.Walked.{Walked, passing-list, walked-known}
@@ -105,9 +105,7 @@ module _ (s : Settings) (list table C E0 S : List ℕ) (members : ℕ) (col : Co
   -- the set's members
   members-are : pairsFrom S 0 members ≡ readSet u
   unfolding membersOf
-  members-are =
-      ap (λ xs. pairsFrom xs 0 members) (col .set-start)
-      ∙ (ap (pairsFrom (over (wordsOf (membersOf s list table)) S) 0) (col .count) ∙ pairs-back (membersOf s list table) (drop (length (wordsOf (membersOf s list table))) S))
+  members-are = set-members (membersOf s list table) S (col .set-start) (col .count)
 
   members-in : members * 2 ≤ length S
   members-in =

@@ -1,11 +1,11 @@
 -- The index of the read set: it tells of each near location whether it is a member, and goes on doing so as members join.
 -- Two near locations have the same byte exactly if they are the same.
 use Prim.Native.Nat.{ℕ, zero, suc, _+_, _*_, _/_, _<_, _≤_}
-use mathlib.Core.Bool.{Bool, true, false, cond, _||_}
+use mathlib.Core.Bool.{Bool, true, false, cond, _||_, true≢false}
 use mathlib.Core.List.{List, [], _∷_, _++_}
 use mathlib.Core.Path.{_≡_, refl, sym, subst, _∙_}
 use native.Mathlib.Omega.{arith}
-use lib.Dec.{T, ltb, eqb}
+use lib.Dec.{ltb, eqb}
 use lib.ListN.{length, getD, set, replicate, length-set}
 use lib.Seq.{getD-set-same, getD-set-other}
 use borrow.Author.Tests.{ltb-true, eqb-true, eq-eqb}
@@ -73,9 +73,6 @@ same-parts l m e =
 parts-same : (l m : Loc) → l .space ≡ m .space → l .index ≡ m .index → sameLoc l m ≡ true
 parts-same l m p q = rw (eq-eqb (l .space) (m .space) p, eq-eqb (l .index) (m .index) q)
 
-not-both : {b : Bool} → b ≡ true → b ≡ false → ⊥
-not-both p q = subst (λ b. T b) (sym p ∙ q) tt
-
 -- two near locations of one byte have one space
 same-row : (n i j : ℕ) → i < n → j < n → (s t : ℕ) → s < 3 → t < 3 → t * n + j ≡ s * n + i → s ≡ t
 same-row n i j a b zero zero k l q = refl
@@ -96,7 +93,7 @@ apart : (n : ℕ) (l m : Loc) → isNear n m ≡ true → isNear n l ≡ true �
 apart n l m k h e q =
     let p = same-row n (l .index) (m .index) (near-index n l h) (near-index n m k) (l .space) (m .space) (near-space n l h) (near-space n m k) q in
     let r : m .space * n + m .index ≡ m .space * n + l .index = rw p at q in
-    not-both (parts-same l m p (omega (arith, r))) e
+    true≢false (sym (parts-same l m p (omega (arith, r))) ∙ e)
 
 pub indexed-more : (seen : List ℕ) (ms : List Loc) (l : Loc) → Indexed seen ms → Indexed (noted l seen) (ms ++ l ∷ [])
 indexed-more seen ms l h = go (isNear (rowOf seen) l) refl
@@ -111,7 +108,8 @@ indexed-more seen ms l h = go (isNear (rowOf seen) l) refl
         rw (getD-set-other seen (cellOf (rowOf seen) l) (cellOf (rowOf seen) m) 1 0 (λ q. apart (rowOf seen) l m k bl e q)) (h m k ∙ or-false (isMember m ms))
     tell m k false bl true e =
         let p = same-parts l m e in
-        absurd (not-both (rw (p .0, p .1) k) bl)
+        let z : isNear (rowOf seen) l ≡ true = rw (p .0, p .1) k in
+        absurd (true≢false (sym z ∙ bl))
     tell m k false bl false e = h m k ∙ or-false (isMember m ms)
 
     go : (b : Bool) → isNear (rowOf seen) l ≡ b → Indexed (cond b (set seen (cellOf (rowOf seen) l) 1) seen) (ms ++ l ∷ [])

@@ -7,11 +7,10 @@ use mathlib.Core.Path.{_≡_, refl, sym, ap, subst, _∙_}
 use native.Mathlib.Omega.{arith}
 use lib.ListN.{length, take}
 use Rattle.mir.specs.declared.config.Settings.{Settings}
-use Rattle.mir.specs.declared.questions.Verdict.{Verdict}
 use Rattle.mir.specs.declared.questions.Verdict.the-variants as verdict
 use Rattle.mir.specs.Answers.{answered, refused, unless}
 use Rattle.mir.specs.Records.{records, fixedMark}
-use Rattle.mir.proofs.Passing.{room-passes}
+use Rattle.mir.proofs.Passing.{not-passed, room-passes}
 use Rattle.passes.specs.declared.alloc.Fate.the-variants.{Kept}
 use Rattle.passes.specs.Color.{setup}
 use Rattle.passes.specs.Contract.{reduced, coloursOf, membersOf, countOf}
@@ -72,12 +71,5 @@ module _ (s : Settings) (list table : List ℕ) (held : Lent) where
           colours = sym (ap (λ w. left w (coloursOf s list table) (held .colours)) v);
           ends = sym (ap (λ w. left w (endsOf list) (held .ends)) v);
           set = sym (ap (λ w. left w (wordsOf (membersOf s list table)) (held .set)) v);
-          preserved = λ p. absurd (not-both (sym v ∙ p));
+          preserved = λ p. absurd (not-passed number index (sym v ∙ p));
         }
-      where
-        not-both : verdict.Refused number index ≡ verdict.Passed → ⊥
-        not-both q = subst (λ w. is-refused w) q tt
-          where
-            is-refused : Verdict → Type 0
-            is-refused verdict.Passed = ⊥
-            is-refused (verdict.Refused n i) = Unit {0}

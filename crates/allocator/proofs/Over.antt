@@ -67,6 +67,10 @@ part-over ws out last at e =
 -- ---- a list changed element by element
 
 module _ {ℓ} {A : Type ℓ} (f : A → A) where
+  pub map-snoc : (ys : List A) (y : A) → map f (ys ++ y ∷ []) ≡ map f ys ++ f y ∷ []
+  map-snoc [] y = refl
+  map-snoc (z ∷ ys) y = ap (λ r. f z ∷ r) (map-snoc ys y)
+
   pub mappedTo : List A → ℕ → List A
   mappedTo xs c = map f (take c xs) ++ drop c xs
 
@@ -97,10 +101,6 @@ module _ {ℓ} {A : Type ℓ} (f : A → A) where
       ∙ (set-at (map f (take c xs)) (getD xs c d) (drop (suc c) xs) (f (getD xs c d)) c (head-length xs c h)
       ∙ (sym (append-snoc (map f (take c xs)) (f (getD xs c d)) (drop (suc c) xs))
       ∙ ap (λ r. r ++ drop (suc c) xs) (sym (map-snoc (take c xs) (getD xs c d)) ∙ ap (map f) (sym (take-suc xs c d h))))))
-    where
-      map-snoc : (ys : List A) (y : A) → map f (ys ++ y ∷ []) ≡ map f ys ++ f y ∷ []
-      map-snoc [] y = refl
-      map-snoc (z ∷ ys) y = ap (λ r. f z ∷ r) (map-snoc ys y)
 
   pub mapped-all : (xs : List A) (c : ℕ) → length xs ≤ c → mappedTo xs c ≡ map f xs
   unfolding mappedTo

@@ -153,6 +153,10 @@ joined-mono ms t f (suc k) j =
     rw (suc-add k j, pairs-next t f (k + j), joined-next ms (pairsFrom t f (k + j)) (pairAt t (f + (k + j))))
     (omega (arith, joined-mono ms t f k j, join-grows (joined ms (pairsFrom t f (k + j))) (pairAt t (f + (k + j)))))
 
+-- the members, read off the slice that they were written to
+pub set-members : (ms : List Loc) (old : List ℕ) {words : List ℕ} {n : ℕ} → words ≡ over (wordsOf ms) old → n ≡ length ms → pairsFrom words 0 n ≡ ms
+set-members ms old e f = rw (e, f) (pairs-back ms (drop (length (wordsOf ms)) old))
+
 -- ---- the set's slice: its members, and all else as it was
 
 pub record SetHolds (old words : List ℕ) (count : ℕ) (members : List Loc) : Type 0 where
@@ -165,9 +169,7 @@ set-first t n h = record { starts = sym (words-same t n h); counted = sym (pairs
 
 module _ {old words : List ℕ} {count : ℕ} {members : List Loc} (h : SetHolds old words count members) where
   pub set-pairs : pairsFrom words 0 count ≡ members
-  set-pairs =
-      ap (λ n. pairsFrom words 0 n) (h .counted)
-      ∙ (ap (λ t. pairsFrom t 0 (length members)) (h .starts) ∙ pairs-back members (drop (length (wordsOf members)) old))
+  set-pairs = set-members members old (h .starts) (h .counted)
 
   pub set-length : length words ≡ length old
   set-length = ap length (h .starts) ∙ over-length (wordsOf members) old (rw (words-length members) (h .room))

@@ -14,7 +14,7 @@ use Rattle.mir.specs.Questions.{partnerFits}
 use Rattle.mir.specs.Records.{wordAt}
 use Rattle.mir.specs.Renaming.{one}
 use Rattle.mir.specs.Shapes.{any, shapeOf, shapeFor, dests, sources}
-use Rattle.mir.proofs.Shapes.{each-from, by-kind, regs-in-record, regs-after-kind}
+use Rattle.mir.proofs.Shapes.{truth, each-from, by-kind, regs-in-record, regs-after-kind}
 use Rattle.passes.specs.Color.{sourceWord}
 use Rattle.passes.proofs.Lengths.{dests-length, sources-length}
 use Rattle.passes.proofs.Reduced.{splice-before, splice-after}
@@ -35,10 +35,6 @@ few-registers k e =
     go : (b : Bool) → T (cond b true true)
     go true = tt
     go false = tt
-
-    truth : (b : Bool) → T b → b ≡ true
-    truth true q = refl
-    truth false q = absurd q
 
 module _ (regs : List Current) (n : ℕ) (cs rec : List ℕ) (len : length rec ≡ 8) where
   abbrev ws : List ℕ

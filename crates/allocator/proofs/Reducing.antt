@@ -6,7 +6,7 @@ use mathlib.Core.List.{List, [], _∷_}
 use mathlib.Core.Path.{_≡_, refl, sym, ap, _∙_}
 use native.Mathlib.Omega.{arith}
 use lib.Dec.{leb}
-use lib.ListN.{length, drop}
+use lib.ListN.{length}
 use borrow.Author.Tests.{leb-true}
 use Rattle.mir.specs.declared.config.Settings.{Settings}
 use Rattle.mir.specs.Answers.{answered}
@@ -14,8 +14,7 @@ use Rattle.mir.specs.Records.{records}
 use Rattle.mir.specs.Shapes.{any}
 use Rattle.mir.proofs.Passing.{ListPasses}
 use Rattle.mir.proofs.Renaming.{and-both, statics-two}
-use Rattle.passes.specs.declared.symbol.Loc.{Loc}
-use Rattle.passes.specs.Color.{setup, pairsFrom}
+use Rattle.passes.specs.Color.{setup}
 use Rattle.passes.specs.Contract.{coloursOf, membersOf}
 use Rattle.passes.specs.Create.{endsOf}
 use Rattle.passes.specs.Machine.{Passing}
@@ -26,7 +25,6 @@ use Rattle.allocator.specs.Optimize.{roomFor, countsOf, over, wordsOf}
 use Rattle.allocator.specs.Walks.{Colored, Contracted, markedEnds, foundsTo}
 use Rattle.allocator.proofs.Marked.{marked-length}
 use Rattle.allocator.proofs.Over.{over-over}
-use Rattle.allocator.proofs.Pairs.{pairs-back}
 use Rattle.allocator.proofs.Walked.{passing-list}
 
 -- question 4 answered yes
@@ -97,7 +95,3 @@ module _ (s : Settings) (list table : List ℕ) (h : Passing s list table) where
       → answered (t .records ∷ n ∷ m ∷ t .nops ∷ t .loads ∷ t .moves ∷ t .saves ∷ []) ≡ answered (countsOf s list table)
   unfolding countsOf
   counts-are t n m k p q = rw (p, q, k .records, k .nops, k .loads, k .moves, k .saves) refl
-
--- the members, read off the slice that they were written to
-pub set-members : (ms : List Loc) (old : List ℕ) {words : List ℕ} {n : ℕ} → words ≡ over (wordsOf ms) old → n ≡ length ms → pairsFrom words 0 n ≡ ms
-set-members ms old e f = rw (e, f) (pairs-back ms (drop (length (wordsOf ms)) old))

@@ -10,12 +10,14 @@ use lib.Seq.{sets, sets-eq, length-take-le, drop-set-lt}
 use Rattle.mir.specs.declared.rename.Current.{Current}
 use Rattle.mir.specs.declared.shape.Dests.{Dests}
 use Rattle.mir.specs.declared.shape.Shape.{Shape}
-use Rattle.mir.specs.Renaming.{one}
 use Rattle.mir.specs.Shapes.{shapeFor, dests, sources, listed}
 use Rattle.mir.proofs.Shapes.{regs-in-record}
 use Rattle.passes.specs.Color.{sourceWord}
 use Rattle.allocator.specs.Walks.{destWords, sourceWords, rewritten}
+use Rattle.passes.proofs.Lengths.{dests-length, sources-length}
 use Rattle.allocator.proofs.Ended.{window-next}
+use Rattle.allocator.proofs.Over.{map-snoc}
+use Rattle.allocator.proofs.Partner.{dest-words-length}
 
 -- ---- a run of stores
 
@@ -34,44 +36,23 @@ module _ {ℓ} {A : Type ℓ} where
 
 -- words from a place on, each changed: one word more
 module _ (f : ℕ → ℕ) where
-  map-snoc : (ys : List ℕ) (y : ℕ) → map f (ys ++ y ∷ []) ≡ map f ys ++ f y ∷ []
-  map-snoc [] y = refl
-  map-snoc (z ∷ ys) y = ap (λ r. f z ∷ r) (map-snoc ys y)
-
   pub changed-next : (rec : List ℕ) (from count : ℕ) → from + count ≤ length rec → (j : ℕ) → j < count
       → set (sets rec from (map f (take j (drop from rec)))) (from + j) (f (getD rec (from + j) 0)) ≡ sets rec from (map f (take (j + 1) (drop from rec)))
   changed-next rec from count h j l =
       ap (λ k. set (sets rec from (map f (take j (drop from rec)))) (from + k) (f (getD rec (from + j) 0))) (sym len)
       ∙ (sets-append (map f (take j (drop from rec))) (f (getD rec (from + j) 0) ∷ []) rec from
-      ∙ ap (sets rec from) (sym (map-snoc (take j (drop from rec)) (getD rec (from + j) 0)) ∙ ap (map f) (sym (window-next rec from count h j l))))
+      ∙ ap (sets rec from) (sym (map-snoc f (take j (drop from rec)) (getD rec (from + j) 0)) ∙ ap (map f) (sym (window-next rec from count h j l))))
     where
       len : length (map f (take j (drop from rec))) ≡ j
       len = length-map (take j (drop from rec)) f ∙ length-take-le j (drop from rec) (rw (length-drop from rec) (omega arith))
 
 -- ---- destinations
 
-pub dests-count : (rec : List ℕ) → length rec ≡ 8 → length (dests rec) ≡ shapeFor rec .dsts
-unfolding dests
-dests-count rec len =
-    length-take-le (shapeFor rec .dsts) (drop (shapeFor rec .regs) rec)
-    (rw (length-drop (shapeFor rec .regs) rec) (omega (arith, regs-in-record (getD rec 0 0))))
-
 -- the destinations' places lie in the record
 pub dests-room : (rec : List ℕ) (s : Shape) (d : Dests) → s ≡ shapeFor rec → length rec ≡ 8 → listed d ≡ dests rec → s .regs + length (listed d) ≤ 8
-dests-room rec s d same len e = rw (same, e, dests-count rec len) (omega (arith, regs-in-record (getD rec 0 0)))
-
-words-count : (ws : List ℕ) (n : ℕ) (colours : List ℕ) → length (destWords ws n colours) ≡ length ws
-unfolding destWords
-words-count [] n colours = refl
-words-count (w ∷ ws) n colours = ap suc (words-count ws (n + one w) colours)
+dests-room rec s d same len e = rw (same, e, dests-length rec len) (omega (arith, regs-in-record (getD rec 0 0)))
 
 -- ---- a record
-
-sources-count : (rec : List ℕ) → length rec ≡ 8 → length (sources rec) ≡ shapeFor rec .srcs
-unfolding sources
-sources-count rec len =
-    length-take-le (shapeFor rec .srcs) (drop (shapeFor rec .regs + shapeFor rec .dsts) rec)
-    (rw (length-drop (shapeFor rec .regs + shapeFor rec .dsts) rec) (omega (arith, regs-in-record (getD rec 0 0))))
 
 -- two runs, one after the other, in a list
 two-runs : (vs ws l : List ℕ) (i m n : ℕ) → length vs ≡ m → length ws ≡ n → i + (m + n) ≤ length l
@@ -88,7 +69,7 @@ two-runs vs ws l i m n v w h =
 module _ (rec : List ℕ) (len : length rec ≡ 8) (next : ℕ) (colours : List ℕ) (s : Shape) (same : s ≡ shapeFor rec) (out : List ℕ)
     (written : out ≡ sets rec (shapeFor rec .regs) (destWords (dests rec) next colours)) where
   count : length (destWords (dests rec) next colours) ≡ shapeFor rec .dsts
-  count = words-count (dests rec) next colours ∙ dests-count rec len
+  count = dest-words-length (dests rec) next colours ∙ dests-length rec len
 
   -- the destinations being written, the sources are as they were
   pub sources-left : take (s .srcs) (drop (s .regs + s .dsts) out) ≡ sources rec
@@ -105,4 +86,4 @@ module _ (rec : List ℕ) (len : length rec ≡ 8) (next : ℕ) (colours : List 
       ap (λ ws. sets out (s .regs + s .dsts) (map (sourceWord regs colours) ws)) sources-left
       ∙ rw (same, written)
       (two-runs (destWords (dests rec) next colours) (sourceWords regs colours rec) rec (shapeFor rec .regs) (shapeFor rec .dsts) (shapeFor rec .srcs)
-      count (length-map (sources rec) (sourceWord regs colours) ∙ sources-count rec len) (omega (arith, regs-in-record (getD rec 0 0))))
+      count (length-map (sources rec) (sourceWord regs colours) ∙ sources-length rec len) (omega (arith, regs-in-record (getD rec 0 0))))

@@ -17,6 +17,7 @@ use Rattle.passes.specs.Create.{endsOf}
 use Rattle.passes.specs.Machine.{Meaning, State, run, AllScalar, EndsEqual}
 use Rattle.allocator.specs.declared.Answer.{Answer}
 use Rattle.allocator.specs.declared.Answer.the-variants.{Reduced, Refused}
+use Rattle.allocator.specs.declared.Counts.{Counts}
 
 -- section 7, question 4, by the numbers of words: has the output at least the list's length, the statics (colours and
 -- ends) at least two entries per record, the set at least 4 words per record plus the table's length?
@@ -54,9 +55,11 @@ countsOf s list table =
     ∷ countOf Save s list table
     ∷ []
 
+abbrev pub valuesIn : Counts → List ℕ
+valuesIn c = c .records ∷ c .statics ∷ c .members ∷ c .nops ∷ c .loads ∷ c .moves ∷ c .saves ∷ []
+
 abbrev pub report : Answer → Report
-report (Reduced c) =
-    answered (c .records ∷ c .statics ∷ c .members ∷ c .nops ∷ c .loads ∷ c .moves ∷ c .saves ∷ [])
+report (Reduced c) = answered (valuesIn c)
 report (Refused number index) = refused number index
 
 -- how many records the reduced list has

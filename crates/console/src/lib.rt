@@ -1,6 +1,7 @@
 // Standard input and output of the programs: words that are read, and what reducing a file gives, as text.
 use allocator::Answer;
 use allocator::Counts;
+use entry::file::word_at;
 use entry::reduce::reduce_file;
 use libc::STDIN_FILENO;
 use libc::STDOUT_FILENO;
@@ -10,17 +11,11 @@ ghost use lib.ListN.{length};
 // The longest file that can be well formed, and a word more, so that a longer one shows.
 pub const FILE: usize = 20_512;
 
-fn wide(x: u8) -> u32
-    ensures { λ r. ⌜ r ≤ 255 ⌝ }
-{
-    x as u32
-}
-
 // The next word of the input, lowest byte first; 0 past its end.
 pub fn word() -> u32 {
     let mut b = [0u8; 4];
     io::read_full(STDIN_FILENO, &mut b);
-    wide(b[0]) + wide(b[1]) * 256 + wide(b[2]) * 65_536 + wide(b[3]) * 16_777_216
+    word_at(&b, 0)
 }
 
 // The next word as a length, but at most `most`.

@@ -2,16 +2,16 @@
 -- A verdict that passed says that the file is well formed and its list passes; demand 3 is then the theorem, put to what the
 -- output holds, in words or in bytes.
 use Prim.Native.Nat.{ℕ, _+_, _*_, _/_, _≤_}
-use mathlib.Core.Bool.{Bool, true, false, cond, _&&_}
+use mathlib.Core.Bool.{Bool, true, false, cond, _&&_, true≢false}
 use mathlib.Core.List.{List, [], _∷_}
 use mathlib.Core.Path.{_≡_, refl, sym, ap, subst, _∙_}
 use native.Mathlib.Omega.{arith}
-use lib.Dec.{T, eqb, leb}
+use lib.Dec.{eqb, leb}
 use lib.ListN.{length, take, drop, replicate, length-replicate}
 use borrow.Author.Tests.{le-leb, leb-true, eqb-true}
 use Rattle.allocator.specs.declared.Answer.{Answer}
 use Rattle.allocator.specs.declared.Counts.{Counts}
-use Rattle.allocator.specs.Optimize.{Lent, lent, Optimized, roomFor, roomIn, verdictOf, countsOf, report, recordsIn, over, left}
+use Rattle.allocator.specs.Optimize.{Lent, lent, Optimized, roomFor, roomIn, verdictOf, countsOf, report, recordsIn, over, left, valuesIn}
 use Rattle.allocator.proofs.Optimizing.{taken, first-count, reduced-words}
 use Rattle.allocator.proofs.Over.{over-take}
 use Rattle.mir.specs.declared.config.Settings.{Settings}
@@ -20,7 +20,7 @@ use Rattle.mir.specs.declared.questions.Verdict.the-variants.{Passed, Refused}
 use Rattle.mir.specs.Answers.{Report, answered, refused, unless}
 use Rattle.mir.specs.Questions.{refusal}
 use Rattle.mir.specs.Records.{records, fixedMark}
-use Rattle.mir.proofs.Passing.{room-passes}
+use Rattle.mir.proofs.Passing.{not-passed, room-passes}
 use Rattle.mir.proofs.Renaming.{and-both}
 use Rattle.passes.specs.declared.alloc.Fate.the-variants.{Kept}
 use Rattle.passes.specs.Color.{setup}
@@ -30,7 +30,7 @@ use Rattle.passes.proofs.Lengths.{counts-add}
 use Rattle.passes.proofs.Preserved.{preserved}
 use Rattle.entry.specs.declared.file.Layout.{Layout}
 use Rattle.entry.specs.declared.file.Layout.the-variants as layout
-use Rattle.entry.specs.Doors.{doorWord, recordsWord, valuesIn}
+use Rattle.entry.specs.Doors.{doorWord, recordsWord}
 use Rattle.entry.specs.File.{FileReduced, ReduceDoor, IsRefused, wordsIn, bytesOf, settingsIn, pairCount, recordCount, tableIn, listIn, wellFormed, layoutOf, fileVerdict, fileCounts, fileReduced, fileWords, wordsVerdict, bytesVerdict}
 use Rattle.entry.proofs.Bytes.{words-length, words-back-after}
 use Rattle.entry.proofs.Fitting.{reduced-small}
@@ -143,12 +143,9 @@ module _ (s : Settings) (list table : List ℕ) (held now : Lent) (given : Answe
 
 -- ---- refusals
 
-untrue : false ≡ true → ⊥
-untrue q = subst (λ b. T (cond b false true)) q tt
-
 -- without room the verdict is a refusal
 pub no-room-refuses : (s : Settings) (list table : List ℕ) (v : Verdict) → v ≡ refusal false s list table → IsRefused v
-no-room-refuses s list table Passed e = untrue (room-passes false s list table (sym e))
+no-room-refuses s list table Passed e = true≢false (sym (room-passes false s list table (sym e)))
 no-room-refuses s list table (Refused number index) e = tt
 
 -- and the counts do not matter
@@ -161,9 +158,6 @@ refused-held Passed words held r = absurd r
 refused-held (Refused number index) words held r = refl
 
 -- ---- the promises
-
-not-passed : (number index : ℕ) → Refused number index ≡ Passed → ⊥
-not-passed number index q = subst IsRefused q tt
 
 -- a file whose verdict passed
 pub file-passing : (room : Bool) (file : List ℕ) → fileVerdict room file ≡ Passed → Passing (settingsIn file) (listIn file) (tableIn file)

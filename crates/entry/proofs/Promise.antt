@@ -1,11 +1,10 @@
 -- The promise of `rudzaviks_optimize`, from that of `optimize` and from the slice of counts.
 -- The verdict of the door is that of `optimize` if the counts have room, and otherwise a refusal.
 use Prim.Native.Nat.{ℕ, _*_, _<_, _≤_}
-use mathlib.Core.Bool.{Bool, true, false, _&&_, not}
+use mathlib.Core.Bool.{Bool, true, false, _&&_, true≢false}
 use mathlib.Core.List.{List, [], _∷_}
 use mathlib.Core.Path.{_≡_, refl, sym, ap, subst, _∙_}
 use native.Mathlib.Omega.{arith}
-use lib.Dec.{T}
 use lib.ListN.{length, set, take, length-set}
 use borrow.Author.Tests.{le-leb, lt-leb}
 use Rattle.allocator.specs.declared.Answer.{Answer}
@@ -16,7 +15,7 @@ use Rattle.mir.specs.declared.questions.Verdict.{Verdict}
 use Rattle.mir.specs.declared.questions.Verdict.the-variants.{Passed, Refused}
 use Rattle.mir.specs.Answers.{Report, answered, refused, unless}
 use Rattle.mir.specs.Questions.{refusal}
-use Rattle.mir.proofs.Passing.{room-passes}
+use Rattle.mir.proofs.Passing.{not-passed, room-passes}
 use Rattle.passes.specs.Contract.{reduced, coloursOf, membersOf}
 use Rattle.passes.specs.Create.{endsOf}
 use Rattle.passes.specs.Machine.{EndsEqual, run}
@@ -48,17 +47,6 @@ written (refused number index) held = held
 left-by : (v : Verdict) (values held : List ℕ) → left v values held ≡ written (unless v values) held
 left-by Passed values held = refl
 left-by (Refused number index) values held = refl
-
-IsRefused : Verdict → Type 0
-IsRefused Passed = ⊥
-IsRefused (Refused number index) = Unit {0}
-
-not-both : (number index : ℕ) → Refused number index ≡ Passed → ⊥
-unfolding IsRefused
-not-both number index q = subst IsRefused q tt
-
-untrue : false ≡ true → ⊥
-untrue q = subst (λ b. T (not b)) q tt
 
 module _ (s : Settings) (list table : List ℕ) (held : Lent) (counts : List ℕ) where
   abbrev v : Verdict
@@ -103,7 +91,7 @@ module _ (s : Settings) (list table : List ℕ) (held : Lent) (counts : List ℕ
   -- a door that has no room for the counts
   pub door-short : length counts < 7 → (w : Verdict) → w ≡ refusal false s list table
       → OptimizeDoor s list table held counts held counts (doorWord recordsWord (unless w []))
-  door-short h Passed e = absurd (untrue (room-passes false s list table (sym e)))
+  door-short h Passed e = absurd (true≢false (sym (room-passes false s list table (sym e))))
   door-short h (Refused number index) e =
       let f = sym (e ∙ no-room h) in
       record {
@@ -113,5 +101,5 @@ module _ (s : Settings) (list table : List ℕ) (held : Lent) (counts : List ℕ
         ends = sym (ap (λ w. left w (endsOf list) (held .ends)) f);
         set = sym (ap (λ w. left w (wordsOf (membersOf s list table)) (held .set)) f);
         counts = sym (ap (λ w. left w (countsOf s list table) counts) f);
-        preserved = λ q. absurd (not-both number index (sym f ∙ q));
+        preserved = λ q. absurd (not-passed number index (sym f ∙ q));
       }

@@ -6,7 +6,6 @@ use mathlib.Core.List.{List, [], _∷_}
 use mathlib.Core.Path.{_≡_}
 use lib.Dec.{eqb, leb}
 use lib.ListN.{getD, length, take}
-use Rattle.allocator.specs.declared.Counts.{Counts}
 use Rattle.allocator.specs.Optimize.{Lent, roomIn, countsOf, left, wordsOf}
 use Rattle.mir.specs.declared.config.Settings.{Settings}
 use Rattle.mir.specs.declared.questions.Verdict.{Verdict}
@@ -53,10 +52,6 @@ FewUsed (refused number index) = Unit {0}
 -- the number of records of the reduced list
 abbrev pub recordsWord : List ℕ → ℕ
 recordsWord values = getD values 0 0
-
--- the seven counts in order
-abbrev pub valuesIn : Counts → List ℕ
-valuesIn c = c .records ∷ c .statics ∷ c .members ∷ c .nops ∷ c .loads ∷ c .moves ∷ c .saves ∷ []
 
 -- the nine questions; question 4 also asks for a slice of at least seven counts
 unfoldable pub verdictWith : Settings → List ℕ → List ℕ → Lent → List ℕ → Verdict

@@ -3,7 +3,7 @@
 use Prim.Native.Nat.{ℕ, suc, _+_, _%_, _≤_, _<_}
 use mathlib.Core.Bool.{Bool, true, false, cond, _&&_}
 use mathlib.Core.List.{List, [], _∷_}
-use mathlib.Core.Path.{_≡_, refl, sym, ap, _∙_}
+use mathlib.Core.Path.{_≡_, refl, sym, ap, subst, _∙_}
 use native.Mathlib.Omega.{arith}
 use lib.ListN.{length, getD}
 use lib.Dec.{ltb, leb, eqb}
@@ -162,6 +162,15 @@ pub record ListPasses (s : Settings) (list table : List ℕ) : Type 0 where
   pub args : s .args ≤ 65535
   pub sized : Sized (length list) (length table)
   pub each : (i : ℕ) → i < records list → Passes table (s .«count_regs») (recordAt list i) (regsTo list i)
+
+IsRefused : Verdict → Type 0
+IsRefused Passed = ⊥
+IsRefused (Refused number index) = Unit {0}
+
+-- a refusal is no pass
+pub not-passed : (number index : ℕ) → Refused number index ≡ Passed → ⊥
+unfolding IsRefused
+not-passed number index q = subst IsRefused q tt
 
 -- questions 1 to 4 answered yes
 heads : (a b c d : Bool) → firstNo ((1, a) ∷ (2, b) ∷ (3, c) ∷ (4, d) ∷ []) ≡ 0 → (a ≡ true) × ((b ≡ true) × ((c ≡ true) × (d ≡ true)))

@@ -169,6 +169,10 @@ isComplex action.LoadArgs = false
 isComplex action.Clear = false
 isComplex action.Other = false
 
+pub truth : (b : Bool) → T b → b ≡ true
+truth true q = refl
+truth false q = absurd q
+
 -- only kinds 7 and 8 have two halves, and their location stands at 3
 pub complex-kind : (k : ℕ) → isComplex (shapeOf k .action) ≡ true → ((leb 7 k && leb k 8) ≡ true) × (shapeOf k .loc ≡ 3)
 unfolding each-from
@@ -176,7 +180,3 @@ complex-kind k e =
     let t = by-kind (λ n s. cond (isComplex (s .action)) (leb 7 n && leb n 8 && eqb (s .loc) 3) true) tt (λ n. tt) k in
     let f : T (leb 7 k && leb k 8 && eqb (shapeOf k .loc) 3) = rw e at t in
     (truth (leb 7 k && leb k 8) (and-left (leb 7 k && leb k 8) (eqb (shapeOf k .loc) 3) f), eqb→eq (shapeOf k .loc) 3 (and-right (leb 7 k && leb k 8) (eqb (shapeOf k .loc) 3) f))
-  where
-    truth : (b : Bool) → T b → b ≡ true
-    truth true q = refl
-    truth false q = absurd q

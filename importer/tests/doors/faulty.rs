@@ -34,6 +34,39 @@ pub fn each_fault_at_places(
     }
 }
 
+/// Each fault somewhere in a list, and what is refused where the room is too short as well: the
+/// fourth question comes after the first three and before the others.
+pub fn too_short_among(
+    random: &mut Random,
+    faults: impl IntoIterator<Item = Fault>,
+    mut check: impl FnMut(&mut Random, &List, u32),
+) {
+    for fault in faults {
+        let mut times = 0;
+        while times < 20 {
+            let mut list = some_list(random, 11);
+            let at = random.index(11);
+            if fault.put(random, &mut list, at) {
+                times += 1;
+                check(random, &list, fault.number().min(4));
+            }
+        }
+    }
+}
+
+/// One fault more at each step: each decides over those put before it.
+pub fn each_decides(
+    random: &mut Random,
+    faults: [(Fault, u32); 4],
+    mut check: impl FnMut(&mut Random, &List, u32),
+) {
+    let mut list = some_list(random, 3);
+    for (fault, number) in faults {
+        assert!(fault.put(random, &mut list, 0), "{fault:?} does not fit");
+        check(random, &list, number);
+    }
+}
+
 /// Each fault early, midway and late in a list of as many records as may be.
 pub fn each_fault_in_the_longest(
     random: &mut Random,

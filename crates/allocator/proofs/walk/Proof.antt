@@ -4,7 +4,8 @@ use Rattle.passes.specs.Contract.{membersOf}
 use mathlib.Core.Path.{_∙_}
 use native.Mathlib.Omega.{arith}
 use Rattle.allocator.specs.Walks.{Colored}
-use Rattle.allocator.proofs.Reducing.{Roomy, roomy, starts, colored, counts-are, set-members, few-colours, few-in-set, ends-last}
+use Rattle.allocator.proofs.Pairs.{set-members}
+use Rattle.allocator.proofs.Reducing.{Roomy, roomy, starts, colored, counts-are, few-colours, few-in-set, ends-last}
 use Rattle.passes.specs.Create.{endsOf}
 use lib.ListN.{length}
 use borrow.Author.Needs.{needs}

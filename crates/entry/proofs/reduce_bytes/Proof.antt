@@ -2,9 +2,8 @@
 -- An answer comes of a verdict that passed, so the words are the reduced list and there is room for them.
 use Rattle.entry.proofs.Files.{Sections, sections, few-kept, words-count, bytes-fit, written-promise, refused-promise}
 use Rattle.entry.specs.File.{fileVerdict, fileCounts}
-use Rattle.entry.specs.Doors.{valuesIn}
 use Rattle.mir.specs.Answers.{answered, unless}
-use Rattle.allocator.specs.Optimize.{report}
+use Rattle.allocator.specs.Optimize.{report, valuesIn}
 use lib.ListN.{length, replicate}
 use lib.Dec.{leb}
 use native.Mathlib.Omega.{arith}

@@ -97,32 +97,14 @@ fn slices_too_short_for_the_longest_lists() {
     }
 }
 
-/// The fourth question comes after the first three and before the others.
 #[test]
 fn too_short_among_the_faults() {
-    let mut random = Random::new(608);
-    for fault in OF_LIST.into_iter().chain(OF_RECORD) {
-        let mut times = 0;
-        while times < 20 {
-            let mut list = some_list(&mut random, 11);
-            let at = random.index(11);
-            if fault.put(&mut random, &mut list, at) {
-                times += 1;
-                refuses_too_short(&mut random, &list, fault.number().min(4));
-            }
-        }
-    }
+    let faults = OF_LIST.into_iter().chain(OF_RECORD);
+    too_short_among(&mut Random::new(608), faults, refuses_too_short);
 }
 
-/// Each earlier fault decides over all later ones.
 #[test]
 fn earlier_questions_decide() {
-    let mut random = Random::new(609);
-    let mut list = some_list(&mut random, 3);
-    for (fault, number) in
-        [(Fault::Kind, 4), (Fault::OddTable, 3), (Fault::Args, 2), (Fault::CountRegs, 1)]
-    {
-        fault.put(&mut random, &mut list, 0);
-        refuses_too_short(&mut random, &list, number);
-    }
+    let faults = [(Fault::Kind, 4), (Fault::OddTable, 3), (Fault::Args, 2), (Fault::CountRegs, 1)];
+    each_decides(&mut Random::new(609), faults, refuses_too_short);
 }

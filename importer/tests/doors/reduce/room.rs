@@ -1,7 +1,7 @@
 //! Outputs that are just long enough, or too short.
 
 use super::support::{agree, refuses};
-use crate::faulty::some_list;
+use crate::faulty::{each_decides, too_short_among};
 use harness::damage::{Fault, OF_RECORD};
 use harness::file::{encode, room, MOST};
 use harness::lists::{list, List, Taste};
@@ -58,35 +58,23 @@ fn enough_for_what_is_left() {
     }
 }
 
-/// The fourth question comes after the first three and before the others.
-#[test]
-fn too_short_among_the_faults() {
-    let mut random = Random::new(1104);
-    let whole = [Fault::CountRegs, Fault::Args, Fault::RaggedList, Fault::OddTable];
-    for fault in whole.into_iter().chain(OF_RECORD) {
-        let mut times = 0;
-        while times < 20 {
-            let mut list = some_list(&mut random, 11);
-            let at = random.index(11);
-            if fault.put(&mut random, &mut list, at) {
-                times += 1;
-                let (file, number) = (encode(&list, 1), fault.number().min(4));
-                too_short(&list).iter().for_each(|len| refuses(&mut random, &file, *len, number));
-            }
-        }
-    }
+/// A check that a list is refused so, by outputs that are too short.
+fn refuses_too_short(random: &mut Random, list: &List, number: u32) {
+    let file = encode(list, 1);
+    too_short(list).iter().for_each(|len| refuses(random, &file, *len, number));
 }
 
-/// Each earlier fault decides over all later ones; the file's form is the first.
+#[test]
+fn too_short_among_the_faults() {
+    let whole = [Fault::CountRegs, Fault::Args, Fault::RaggedList, Fault::OddTable];
+    let faults = whole.into_iter().chain(OF_RECORD);
+    too_short_among(&mut Random::new(1104), faults, refuses_too_short);
+}
+
+/// The file's form decides over all else.
 #[test]
 fn earlier_questions_decide() {
-    let mut random = Random::new(1105);
-    let mut list = some_list(&mut random, 3);
-    for (fault, number) in
-        [(Fault::Kind, 4), (Fault::Args, 2), (Fault::CountRegs, 1), (Fault::RaggedList, 3)]
-    {
-        fault.put(&mut random, &mut list, 0);
-        let file = encode(&list, 1);
-        too_short(&list).iter().for_each(|short| refuses(&mut random, &file, *short, number));
-    }
+    let faults =
+        [(Fault::Kind, 4), (Fault::Args, 2), (Fault::CountRegs, 1), (Fault::RaggedList, 3)];
+    each_decides(&mut Random::new(1105), faults, refuses_too_short);
 }
