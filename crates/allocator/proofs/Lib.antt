@@ -1,19 +1,6 @@
--- The laws that the functions' proofs cite.
-pub mod Firsts
+-- The laws that the functions' proofs cite. Those that serve one file of src/ stand in the folder of its name.
 pub mod Over
-pub mod Pairs
-pub mod Index
-pub mod Ended
-pub mod Walked
-pub mod Sourced
-pub mod Marked
-pub mod Stepped
-pub mod Colouring
-pub mod Fated
-pub mod Grown
-pub mod Unmarked
-pub mod Contracting
-pub mod Partner
-pub mod Rewriting
-pub mod Reducing
-pub mod Optimizing
+pub mod Words
+pub mod Registers
+pub mod Walks
+pub mod Promise

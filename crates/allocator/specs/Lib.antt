@@ -1,4 +1,3 @@
--- What `optimize` promises.
-pub mod Pools
+-- What `optimize` promises; in Inner, what only the functions inside say.
 pub mod Optimize
-pub mod Walks
+pub mod Inner

@@ -10,7 +10,7 @@ use Rattle.mir.specs.declared.questions.Verdict.{Verdict}
 use Rattle.mir.specs.declared.questions.Verdict.the-variants as verdict
 use Rattle.mir.specs.Answers.{Report, answered, refused, unless}
 use Rattle.mir.specs.Questions.{refusal}
-use Rattle.passes.specs.declared.alloc.Fate.the-variants.{Kept, Nop, Load, Move, Save}
+use Rattle.passes.specs.declared.alloc.Outcome.the-variants.{Kept, Nop, Load, Move, Save}
 use Rattle.passes.specs.declared.symbol.Loc.{Loc}
 use Rattle.passes.specs.Contract.{reduced, coloursOf, membersOf, countOf}
 use Rattle.passes.specs.Create.{endsOf}

@@ -3,9 +3,9 @@ use crate::locs::extend;
 use crate::locs::insert;
 use crate::pool::assign;
 use crate::pool::choose;
-use crate::settle::partner;
-use crate::settle::reset_allocs;
-use crate::settle::settle;
+use crate::allocs::partner;
+use crate::allocs::reset_allocs;
+use crate::allocs::update_allocs;
 use mir::config::Settings;
 use mir::record::record_at;
 use mir::rename::Current;
@@ -27,7 +27,7 @@ ghost use lib.Dec.{leb};
 ghost use mathlib.Core.Path.{_≡_};
 ghost use lib.ListN.{length, getD};
 ghost use Rattle.allocator.specs.Optimize.{over, wordsOf};
-ghost use Rattle.allocator.specs.Walks.{Indexed, Known, slices, destStep, destSteps, Picks, Ready, sourceWords, wantedBy, recordStep, wasFound, readsOf, markedEnds};
+ghost use Rattle.allocator.specs.Inner.Walks.{Indexed, Known, slices, destStep, destSteps, Picks, Ready, sourceWords, wantedBy, recordStep, wasFound, readsOf, markedEnds};
 ghost use Rattle.mir.specs.Questions.{fieldsFit, gensFit, partnerFits};
 ghost use Rattle.mir.specs.Records.{isGen, maxRegs, records};
 ghost use Rattle.mir.specs.Shapes.{any, dests};
@@ -231,7 +231,7 @@ fn color_record(
     let hx = want_x(action, l, held_by(allocs, x));
     let hy = want_y(action, l);
     let given = color_dests(allocs, rec, hx, hy, n, i, next, colours, ends);
-    settle(given, action, l, x, y)
+    update_allocs(given, action, l, x, y)
 }
 
 // Whether x was found; `next` is the record's first static.

@@ -4,7 +4,7 @@ use crate::color::deallocate;
 use crate::color::loc_of;
 use crate::color::was_found;
 use crate::locs::contains;
-use crate::settle::partner;
+use crate::allocs::partner;
 use mir::config::Settings;
 use mir::record::record_at;
 use mir::rename::Current;
@@ -20,7 +20,7 @@ use mir::shape::SAVE;
 use mir::shape::SAVE_COMPLEX;
 use mir::shape::dests_of;
 use mir::shape::shape_of;
-use passes::alloc::Fate;
+use passes::alloc::Outcome;
 use passes::symbol::Loc;
 ghost use Prim.Native.Nat.{ℕ, _+_, _*_, _<_, _≤_, _%_};
 ghost use mathlib.Core.Bool.{true, cond, _&&_, not};
@@ -29,15 +29,15 @@ ghost use mathlib.Core.Path.{_≡_};
 ghost use lib.ListN.{length, getD, set, take, drop};
 ghost use lib.Seq.{sets};
 ghost use Rattle.allocator.specs.Optimize.{over};
-ghost use Rattle.allocator.specs.Walks.{Indexed, Known, Colored, Contracted, Short, destWords, rewritten, fateIn, unmarked, tallied};
+ghost use Rattle.allocator.specs.Inner.Walks.{Indexed, Known, Colored, Contracted, Short, destWords, rewritten, outcomeIn, unmarked, tallied};
 ghost use Rattle.mir.specs.Folds.{all};
 ghost use Rattle.mir.specs.Questions.{genFits, gensFit, partnerFits};
 ghost use Rattle.mir.specs.Records.{isGen, maxRegs};
 ghost use Rattle.mir.specs.Shapes.{any, dests, shapeFor};
 ghost use Rattle.passes.specs.Color.{sourceWord, pairsFrom, isMember};
 ghost use Rattle.passes.specs.Color as color;
-ghost use Rattle.passes.specs.Contract.{isBeyond, isKept, fateOf};
-ghost use Rattle.passes.specs.declared.alloc.Fate.the-variants as fates;
+ghost use Rattle.passes.specs.Contract.{isBeyond, isKept, outcomeOf};
+ghost use Rattle.passes.specs.declared.alloc.Outcome.the-variants as outcomes;
 
 // A destination in colours: the colour of its static, which is `next`.
 fn dest_word(w: u32, next: usize, colours: &[u32]) -> u32
@@ -117,18 +117,18 @@ fn is_beyond(fixed: u64, l: Loc) -> bool
 }
 
 // What becomes of a Save to a location.
-fn save_fate(l: Loc, fixed: u64, locs: &[u32], members: usize, seen: &[u8]) -> Fate
+fn save_outcome(l: Loc, fixed: u64, locs: &[u32], members: usize, seen: &[u8]) -> Outcome
     requires { ⌜ Indexed (now seen) (pairsFrom (now locs) 0 members) ⌝ }
     requires { ⌜ members * 2 ≤ length (now locs) ⌝ }
-    ensures { λ r. ⌜ r ≡ cond (isBeyond fixed l && not (isMember l (pairsFrom (now (locs .entry)) 0 members))) fates.Save fates.Kept ⌝ }
+    ensures { λ r. ⌜ r ≡ cond (isBeyond fixed l && not (isMember l (pairsFrom (now (locs .entry)) 0 members))) outcomes.Save outcomes.Kept ⌝ }
 {
     if !is_beyond(fixed, l) {
-        return Fate::Kept;
+        return Outcome::Kept;
     }
     if contains(locs, members, l, seen) {
-        return Fate::Kept;
+        return Outcome::Kept;
     }
-    Fate::Save
+    Outcome::Save
 }
 
 // Whether both halves of a location are members.
@@ -145,53 +145,53 @@ fn contains_both(l: Loc, locs: &[u32], members: usize, seen: &[u8]) -> bool
 }
 
 // What becomes of a SaveComplex to a location.
-fn save_complex_fate(l: Loc, fixed: u64, locs: &[u32], members: usize, seen: &[u8]) -> Fate
+fn save_complex_outcome(l: Loc, fixed: u64, locs: &[u32], members: usize, seen: &[u8]) -> Outcome
     requires { ⌜ Indexed (now seen) (pairsFrom (now locs) 0 members) ⌝ }
     requires { ⌜ l .index < any ⌝ }
     requires { ⌜ members * 2 ≤ length (now locs) ⌝ }
-    ensures { λ r. ⌜ r ≡ cond (isBeyond fixed l && not (isMember l (pairsFrom (now (locs .entry)) 0 members) && isMember (color.partner l) (pairsFrom (now (locs .entry)) 0 members))) fates.Save fates.Kept ⌝ }
+    ensures { λ r. ⌜ r ≡ cond (isBeyond fixed l && not (isMember l (pairsFrom (now (locs .entry)) 0 members) && isMember (color.partner l) (pairsFrom (now (locs .entry)) 0 members))) outcomes.Save outcomes.Kept ⌝ }
 {
     if !is_beyond(fixed, l) {
-        return Fate::Kept;
+        return Outcome::Kept;
     }
     if contains_both(l, locs, members, seen) {
-        return Fate::Kept;
+        return Outcome::Kept;
     }
-    Fate::Save
+    Outcome::Save
 }
 
 // What becomes of a record in colours; `found` says that its location was found.
-fn fate_of(
+fn outcome_of(
     rec: [u32; 8],
     found: bool,
     fixed: u64,
     locs: &[u32],
     members: usize,
     seen: &[u8],
-) -> Fate
+) -> Outcome
     requires { ⌜ Indexed (now seen) (pairsFrom (now locs) 0 members) ⌝ }
     requires { ⌜ partnerFits rec ≡ true ⌝ }
     requires { ⌜ members * 2 ≤ length (now locs) ⌝ }
-    ensures { λ r. ⌜ r ≡ fateOf fixed (pairsFrom (now (locs .entry)) 0 members) found rec ⌝ }
+    ensures { λ r. ⌜ r ≡ outcomeOf fixed (pairsFrom (now (locs .entry)) 0 members) found rec ⌝ }
 {
     let kind = rec[0];
     match kind {
-        NOP => Fate::Nop,
+        NOP => Outcome::Nop,
         LOAD | LOAD_COMPLEX => {
             if found {
-                return Fate::Load;
+                return Outcome::Load;
             }
-            Fate::Kept
+            Outcome::Kept
         }
         MOV => {
             if rec[1] == rec[2] {
-                return Fate::Move;
+                return Outcome::Move;
             }
-            Fate::Kept
+            Outcome::Kept
         }
-        SAVE => save_fate(loc_of(rec), fixed, locs, members, seen),
-        SAVE_COMPLEX => save_complex_fate(loc_of(rec), fixed, locs, members, seen),
-        _ => Fate::Kept,
+        SAVE => save_outcome(loc_of(rec), fixed, locs, members, seen),
+        SAVE_COMPLEX => save_complex_outcome(loc_of(rec), fixed, locs, members, seen),
+        _ => Outcome::Kept,
     }
 }
 
@@ -238,18 +238,18 @@ fn push(rec: [u32; 8], out: &mut [u32])
 }
 
 // A record that is kept goes into the output's part from the next record on.
-fn keep(fate: Fate, rec: [u32; 8], at: usize, out: &mut [u32])
+fn keep(outcome: Outcome, rec: [u32; 8], at: usize, out: &mut [u32])
     requires { ⌜ at + 8 ≤ length (now out) ⌝ }
-    ensures { λ _. ⌜ now (out .exit) ≡ cond (isKept fate) (take at (now (out .entry)) ++ over rec (drop at (now (out .entry)))) (now (out .entry)) ⌝ }
+    ensures { λ _. ⌜ now (out .exit) ≡ cond (isKept outcome) (take at (now (out .entry)) ++ over rec (drop at (now (out .entry)))) (now (out .entry)) ⌝ }
 {
-    match fate {
-        Fate::Kept => {
+    match outcome {
+        Outcome::Kept => {
             push(rec, &mut out[at..]);
         }
-        Fate::Nop => {}
-        Fate::Load => {}
-        Fate::Move => {}
-        Fate::Save => {}
+        Outcome::Nop => {}
+        Outcome::Load => {}
+        Outcome::Move => {}
+        Outcome::Save => {}
     }
 }
 
@@ -263,40 +263,40 @@ pub struct Tally {
 }
 
 // One record more.
-fn add_fate(t: Tally, fate: Fate) -> Tally
+fn add_outcome(t: Tally, outcome: Outcome) -> Tally
     requires { ⌜ Short t any ⌝ }
-    ensures { λ r. ⌜ r ≡ tallied fate t ⌝ }
+    ensures { λ r. ⌜ r ≡ tallied outcome t ⌝ }
 {
-    match fate {
-        Fate::Kept => Tally {
+    match outcome {
+        Outcome::Kept => Tally {
             records: t.records + 1,
             nops: t.nops,
             loads: t.loads,
             moves: t.moves,
             saves: t.saves,
         },
-        Fate::Nop => Tally {
+        Outcome::Nop => Tally {
             records: t.records,
             nops: t.nops + 1,
             loads: t.loads,
             moves: t.moves,
             saves: t.saves,
         },
-        Fate::Load => Tally {
+        Outcome::Load => Tally {
             records: t.records,
             nops: t.nops,
             loads: t.loads + 1,
             moves: t.moves,
             saves: t.saves,
         },
-        Fate::Move => Tally {
+        Outcome::Move => Tally {
             records: t.records,
             nops: t.nops,
             loads: t.loads,
             moves: t.moves + 1,
             saves: t.saves,
         },
-        Fate::Save => Tally {
+        Outcome::Save => Tally {
             records: t.records,
             nops: t.nops,
             loads: t.loads,
@@ -329,16 +329,16 @@ fn contract_record(
     requires { ⌜ members * 2 ≤ length (now locs) ⌝ }
     requires { ⌜ Short tally any ⌝ }
     requires { ⌜ tally .records * 8 + 8 ≤ length (now out) ⌝ }
-    ensures tally { λ r. ⌜ r ≡ tallied (fateIn fixed (pairsFrom (now (locs .entry)) 0 members) regs next (now (colours .entry)) (now (ends .entry)) rec) tally ⌝ }
+    ensures tally { λ r. ⌜ r ≡ tallied (outcomeIn fixed (pairsFrom (now (locs .entry)) 0 members) regs next (now (colours .entry)) (now (ends .entry)) rec) tally ⌝ }
     ensures ends { λ _. ⌜ now (ends .exit) ≡ unmarked (dests rec) next (now (ends .entry)) ⌝ }
-    ensures out { λ _. ⌜ now (out .exit) ≡ cond (isKept (fateIn fixed (pairsFrom (now (locs .entry)) 0 members) regs next (now (colours .entry)) (now (ends .entry)) rec)) (take (tally .records * 8) (now (out .entry)) ++ over (rewritten regs next (now (colours .entry)) rec) (drop (tally .records * 8) (now (out .entry)))) (now (out .entry)) ⌝ }
+    ensures out { λ _. ⌜ now (out .exit) ≡ cond (isKept (outcomeIn fixed (pairsFrom (now (locs .entry)) 0 members) regs next (now (colours .entry)) (now (ends .entry)) rec)) (take (tally .records * 8) (now (out .entry)) ++ over (rewritten regs next (now (colours .entry)) rec) (drop (tally .records * 8) (now (out .entry)))) (now (out .entry)) ⌝ }
 {
     let found = was_found(rec, next, ends);
     unmark(rec, next, ends);
     let written = rewrite(rec, regs, next, colours);
-    let fate = fate_of(written, found, fixed, locs, members, seen);
-    keep(fate, written, (tally.records as usize) * 8, out);
-    add_fate(tally, fate)
+    let outcome = outcome_of(written, found, fixed, locs, members, seen);
+    keep(outcome, written, (tally.records as usize) * 8, out);
+    add_outcome(tally, outcome)
 }
 
 // The reduced list, from the colours, the marked ends and the read set; the ends lose their marks.

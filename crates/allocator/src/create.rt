@@ -12,7 +12,7 @@ ghost use mathlib.Core.Bool.{true, cond};
 ghost use mathlib.Core.Path.{_≡_};
 ghost use lib.ListN.{length, set, take, drop};
 ghost use Rattle.allocator.specs.Optimize.{over};
-ghost use Rattle.allocator.specs.Walks.{Known, Passes, created};
+ghost use Rattle.allocator.specs.Inner.Walks.{Known, Passes, created};
 ghost use Rattle.mir.specs.Folds.{all};
 ghost use Rattle.mir.specs.Questions.{genFits, gensFit};
 ghost use Rattle.mir.specs.Records.{isGen, maxRegs, records};

@@ -6,7 +6,7 @@ ghost use mathlib.Core.Path.{_≡_};
 ghost use lib.ListN.{length};
 ghost use Rattle.allocator.specs.declared.Answer.the-variants.{Reduced};
 ghost use Rattle.allocator.specs.Optimize.{Optimized, lent, roomFor, report};
-ghost use Rattle.allocator.specs.Walks.{Indexed, Reduces};
+ghost use Rattle.allocator.specs.Inner.Walks.{Indexed, Reduces};
 ghost use Rattle.mir.specs.Answers.{answered};
 ghost use Rattle.mir.specs.Shapes.{any};
 ghost use Rattle.passes.specs.Machine.{Passing};
@@ -16,7 +16,7 @@ pub mod contract;
 pub mod create;
 pub mod locs;
 pub mod pool;
-pub mod settle;
+pub mod allocs;
 
 use crate::color::Sizes;
 use crate::contract::Tally;

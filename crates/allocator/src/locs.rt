@@ -7,7 +7,7 @@ ghost use mathlib.Core.Bool.{true};
 ghost use mathlib.Core.Path.{_≡_};
 ghost use lib.ListN.{length, getD};
 ghost use Rattle.allocator.specs.Optimize.{over, wordsOf};
-ghost use Rattle.allocator.specs.Walks.{Indexed, isNear, cellOf, noted};
+ghost use Rattle.allocator.specs.Inner.Walks.{Indexed, isNear, cellOf, noted};
 ghost use Rattle.passes.specs.Color as color;
 ghost use Rattle.passes.specs.Color.{pairsFrom, isMember, join, joined};
 

@@ -9,20 +9,20 @@ ghost use mathlib.Core.Bool.{_&&_};
 ghost use mathlib.Core.Path.{_≡_};
 ghost use Rattle.mir.specs.Records.{maxRegs};
 ghost use Rattle.passes.specs.Color.{sameLoc, isNothing, colourAt, isFree, holdsAt, firstBelow, freeOr, foundOr, plainChoice};
-ghost use Rattle.allocator.specs.Pools.{placed};
-ghost use Rattle.allocator.specs.Pools as pools;
+ghost use Rattle.allocator.specs.Inner.Pools.{placed};
+ghost use Rattle.allocator.specs.Inner.Pools as pools;
 ghost use Rattle.passes.specs.Color as color;
 ghost use Rattle.passes.specs.declared.alloc.Choice.the-variants.{Empty};
 
 // What a choice looks for in a colour: that it is free and holds no location, that it is free, or that it holds one.
-enum Wish {
+enum Criterion {
     Bare,
     Free,
     Holder(Loc),
 }
 
 // The first colour that was looked for, if there is one.
-enum Spot {
+enum Position {
     At(u32),
     Nowhere,
 }
@@ -63,29 +63,29 @@ pub fn holds(a: Alloc, l: Loc) -> bool
 }
 
 // Whether a colour is what is looked for at instruction `i`.
-fn meets(wish: Wish, a: Alloc, i: u32) -> bool
-    ensures { λ r. ⌜ r ≡ pools.meets wish i a ⌝ }
+fn meets(criterion: Criterion, a: Alloc, i: u32) -> bool
+    ensures { λ r. ⌜ r ≡ pools.meets criterion i a ⌝ }
 {
-    match wish {
-        Wish::Holder(l) => holds(a, l),
-        Wish::Free => a.life <= i,
-        Wish::Bare => is_free_bare(a, i),
+    match criterion {
+        Criterion::Holder(l) => holds(a, l),
+        Criterion::Free => a.life <= i,
+        Criterion::Bare => is_free_bare(a, i),
     }
 }
 
 // The first of `n` colours that is what is looked for.
-fn first(allocs: [Alloc; 32], n: usize, i: u32, wish: Wish) -> Spot
+fn first(allocs: [Alloc; 32], n: usize, i: u32, criterion: Criterion) -> Position
     requires { ⌜ n ≤ maxRegs ⌝ }
-    ensures { λ r. ⌜ placed r ≡ firstBelow (λ c. pools.meets wish i (colourAt allocs c)) n ⌝ }
+    ensures { λ r. ⌜ placed r ≡ firstBelow (λ c. pools.meets criterion i (colourAt allocs c)) n ⌝ }
 {
     let mut c = 0;
     while c < n {
-        if meets(wish, allocs[c], i) {
-            return Spot::At(c as u32);
+        if meets(criterion, allocs[c], i) {
+            return Position::At(c as u32);
         }
         c += 1;
     }
-    Spot::Nowhere
+    Position::Nowhere
 }
 
 // The first free colour, if the pool has one.
@@ -93,8 +93,8 @@ fn allocate_free(allocs: [Alloc; 32], n: usize, i: u32) -> Choice
     requires { ⌜ n ≤ maxRegs ⌝ }
     ensures { λ r. ⌜ r ≡ freeOr (firstBelow (isFree i allocs) n) Empty ⌝ }
 {
-    let free = first(allocs, n, i, Wish::Free);
-    let Spot::At(c) = free else {
+    let free = first(allocs, n, i, Criterion::Free);
+    let Position::At(c) = free else {
         return Choice::Empty;
     };
     Choice::Free(c)
@@ -105,8 +105,8 @@ fn allocate(allocs: [Alloc; 32], n: usize, i: u32) -> Choice
     requires { ⌜ n ≤ maxRegs ⌝ }
     ensures { λ r. ⌜ r ≡ plainChoice n i allocs ⌝ }
 {
-    let bare = first(allocs, n, i, Wish::Bare);
-    let Spot::At(c) = bare else {
+    let bare = first(allocs, n, i, Criterion::Bare);
+    let Position::At(c) = bare else {
         return allocate_free(allocs, n, i);
     };
     Choice::Free(c)
@@ -117,8 +117,8 @@ fn allocate_loc(allocs: [Alloc; 32], n: usize, i: u32, l: Loc) -> Choice
     requires { ⌜ n ≤ maxRegs ⌝ }
     ensures { λ r. ⌜ r ≡ foundOr (firstBelow (holdsAt allocs l) n) (plainChoice n i allocs) ⌝ }
 {
-    let holder = first(allocs, n, i, Wish::Holder(l));
-    let Spot::At(c) = holder else {
+    let holder = first(allocs, n, i, Criterion::Holder(l));
+    let Position::At(c) = holder else {
         return allocate(allocs, n, i);
     };
     Choice::Found(c)

@@ -1,8 +1,8 @@
 // Standard input and output of the programs: words that are read, and what reducing a file gives, as text.
 use allocator::Answer;
 use allocator::Counts;
-use entry::file::word_at;
-use entry::reduce::reduce_file;
+use rudzaviks::file::word_at;
+use rudzaviks::reduce::reduce_file;
 use libc::STDIN_FILENO;
 use libc::STDOUT_FILENO;
 ghost use Prim.Native.Nat.{_*_, _+_, _≤_};

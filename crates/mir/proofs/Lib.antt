@@ -1,4 +1,5 @@
 -- Laws that several functions' proofs, and the crates above, cite.
+pub mod Clash
 pub mod Folds
 pub mod Masks
 pub mod Passing

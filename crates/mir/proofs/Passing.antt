@@ -3,7 +3,7 @@
 use Prim.Native.Nat.{ℕ, suc, _+_, _%_, _≤_, _<_}
 use mathlib.Core.Bool.{Bool, true, false, cond, _&&_}
 use mathlib.Core.List.{List, [], _∷_}
-use mathlib.Core.Path.{_≡_, refl, sym, ap, subst, _∙_}
+use mathlib.Core.Path.{_≡_, refl}
 use native.Mathlib.Omega.{arith}
 use lib.ListN.{length, getD}
 use lib.Dec.{ltb, leb, eqb}
@@ -17,6 +17,7 @@ use Rattle.mir.specs.Questions.{fewRegisters, fewArgs, wellSized, knownK
 use Rattle.mir.specs.Records.{isGen, maxRegs, records, recordAt}
 use Rattle.mir.specs.Renaming.{regsTo}
 use Rattle.mir.specs.Shapes.{registers}
+use Rattle.mir.proofs.Clash.{clash}
 use Rattle.mir.proofs.Folds.{refusal-none}
 use Rattle.mir.proofs.Renaming.{and-both}
 
@@ -163,14 +164,9 @@ pub record ListPasses (s : Settings) (list table : List ℕ) : Type 0 where
   pub sized : Sized (length list) (length table)
   pub each : (i : ℕ) → i < records list → Passes table (s .«count_regs») (recordAt list i) (regsTo list i)
 
-IsRefused : Verdict → Type 0
-IsRefused Passed = ⊥
-IsRefused (Refused number index) = Unit {0}
-
 -- a refusal is no pass
 pub not-passed : (number index : ℕ) → Refused number index ≡ Passed → ⊥
-unfolding IsRefused
-not-passed number index q = subst IsRefused q tt
+not-passed number index q = clash (cc)
 
 -- questions 1 to 4 answered yes
 heads : (a b c d : Bool) → firstNo ((1, a) ∷ (2, b) ∷ (3, c) ∷ (4, d) ∷ []) ≡ 0 → (a ≡ true) × ((b ≡ true) × ((c ≡ true) × (d ≡ true)))

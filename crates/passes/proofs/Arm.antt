@@ -7,7 +7,7 @@ use mathlib.Core.Path.{_≡_, refl}
 use Rattle.mir.specs.declared.config.Settings.{Settings}
 use Rattle.mir.specs.Questions.{refusal}
 use Rattle.mir.specs.Records.{fixedMark}
-use Rattle.passes.specs.declared.alloc.Fate.{Fate}
+use Rattle.passes.specs.declared.alloc.Outcome.{Outcome}
 use Rattle.passes.specs.Contract.{reduced, coloursOf, membersOf, countOf}
 
 pub armed : Bool → Settings → Settings
@@ -18,7 +18,7 @@ pub record SameAnswers (s t : Settings) (list table : List ℕ) : Type 0 where
   pub reduced : reduced s list table ≡ reduced t list table
   pub colours : coloursOf s list table ≡ coloursOf t list table
   pub members : membersOf s list table ≡ membersOf t list table
-  pub counts : (f : Fate) → countOf f s list table ≡ countOf f t list table
+  pub counts : (f : Outcome) → countOf f s list table ≡ countOf f t list table
 
 pub arm-changes-nothing : (arm : Bool) (s : Settings) (list table : List ℕ) → SameAnswers (armed arm s) s list table
 unfolding armed refusal fixedMark reduced coloursOf membersOf countOf

@@ -11,11 +11,11 @@ use Rattle.mir.specs.Records.{records, recordAt, wordAt}
 use Rattle.mir.specs.Renaming.{regsTo}
 use Rattle.mir.specs.Shapes.{shapeFor, dests, sources}
 use Rattle.mir.proofs.Shapes.{regs-in-record}
-use Rattle.passes.specs.declared.alloc.Fate.{Fate}
-use Rattle.passes.specs.declared.alloc.Fate.the-variants.{Kept, Nop, Load, Move, Save}
+use Rattle.passes.specs.declared.alloc.Outcome.{Outcome}
+use Rattle.passes.specs.declared.alloc.Outcome.the-variants.{Kept, Nop, Load, Move, Save}
 use Rattle.passes.specs.declared.alloc.Held.{Held}
 use Rattle.passes.specs.Color.{Setup, Coloring, wanted, sourceWord, afterDest, wordsFor, sourcesAt, destsAt, colored, colorTo}
-use Rattle.passes.specs.Contract.{isKept, fateAt, outAt, reducedTo, fateNumber, countTo}
+use Rattle.passes.specs.Contract.{isKept, outcomeAt, outAt, reducedTo, outcomeNumber, countTo}
 use Rattle.passes.proofs.Runs.{record-length}
 
 words-length : (n i : ℕ) (E : List ℕ) (ds : List (ℕ × Held)) (st : Coloring) → length (wordsFor n i E ds st) ≡ length ds
@@ -77,11 +77,11 @@ module _ (u : Setup) (i : ℕ) (inside : i < records (u .list)) where
   out-length = colored-length (colorTo u i)
 
 -- the reduced list has as many records as are kept
-pub kept-next : (mark : ℕ) (u : Setup) (i : ℕ) → countTo Kept mark u (suc i) ≡ countTo Kept mark u i + cond (isKept (fateAt mark u i)) 1 0
+pub kept-next : (mark : ℕ) (u : Setup) (i : ℕ) → countTo Kept mark u (suc i) ≡ countTo Kept mark u i + cond (isKept (outcomeAt mark u i)) 1 0
 unfolding countTo
-kept-next mark u i = ap (λ (k : ℕ). countTo Kept mark u i + k) (go (fateAt mark u i))
+kept-next mark u i = ap (λ (k : ℕ). countTo Kept mark u i + k) (go (outcomeAt mark u i))
   where
-    go : (f : Fate) → _≡_ {A = ℕ} (cond (eqb (fateNumber f) (fateNumber Kept)) 1 0) (cond (isKept f) 1 0)
+    go : (f : Outcome) → _≡_ {A = ℕ} (cond (eqb (outcomeNumber f) (outcomeNumber Kept)) 1 0) (cond (isKept f) 1 0)
     go Kept = refl
     go Nop = refl
     go Load = refl
@@ -91,7 +91,7 @@ kept-next mark u i = ap (λ (k : ℕ). countTo Kept mark u i + k) (go (fateAt ma
 pub reduced-length : (mark : ℕ) (u : Setup) (i : ℕ) → i ≤ records (u .list) → length (reducedTo mark u i) ≡ countTo Kept mark u i * 8
 unfolding reducedTo countTo
 reduced-length mark u zero h = refl
-reduced-length mark u (suc i) h = rw (kept-next mark u i) (go (isKept (fateAt mark u i)) (reduced-length mark u i (omega arith)))
+reduced-length mark u (suc i) h = rw (kept-next mark u i) (go (isKept (outcomeAt mark u i)) (reduced-length mark u i (omega arith)))
   where
     go : (b : Bool) → length (reducedTo mark u i) ≡ countTo Kept mark u i * 8
         → length (reducedTo mark u i ++ cond b (outAt u i) []) ≡ (countTo Kept mark u i + cond b 1 0) * 8
@@ -103,12 +103,12 @@ pub counts-add : (mark : ℕ) (u : Setup) (i : ℕ)
     → countTo Kept mark u i + (countTo Nop mark u i + (countTo Load mark u i + (countTo Move mark u i + countTo Save mark u i))) ≡ i
 unfolding countTo
 counts-add mark u zero = refl
-counts-add mark u (suc i) = go (fateAt mark u i) (counts-add mark u i)
+counts-add mark u (suc i) = go (outcomeAt mark u i) (counts-add mark u i)
   where
-    go : (f : Fate) → countTo Kept mark u i + (countTo Nop mark u i + (countTo Load mark u i + (countTo Move mark u i + countTo Save mark u i))) ≡ i
-        → countTo Kept mark u i + cond (eqb (fateNumber f) 0) 1 0
-        + (countTo Nop mark u i + cond (eqb (fateNumber f) 1) 1 0
-        + (countTo Load mark u i + cond (eqb (fateNumber f) 2) 1 0 + (countTo Move mark u i + cond (eqb (fateNumber f) 3) 1 0 + (countTo Save mark u i + cond (eqb (fateNumber f) 4) 1 0))))
+    go : (f : Outcome) → countTo Kept mark u i + (countTo Nop mark u i + (countTo Load mark u i + (countTo Move mark u i + countTo Save mark u i))) ≡ i
+        → countTo Kept mark u i + cond (eqb (outcomeNumber f) 0) 1 0
+        + (countTo Nop mark u i + cond (eqb (outcomeNumber f) 1) 1 0
+        + (countTo Load mark u i + cond (eqb (outcomeNumber f) 2) 1 0 + (countTo Move mark u i + cond (eqb (outcomeNumber f) 3) 1 0 + (countTo Save mark u i + cond (eqb (outcomeNumber f) 4) 1 0))))
         ≡ suc i
     go Kept up = omega arith
     go Nop up = omega arith

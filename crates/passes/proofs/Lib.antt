@@ -1,20 +1,24 @@
 -- The theorems about the definitions, and the laws that the code's proofs cite.
-pub mod Arm
-pub mod Cases
-pub mod Given
-pub mod Going
-pub mod Lengths
-pub mod Lists
+-- renaming, colouring, the read set and contracting
+pub mod Create
+pub mod Choice
+pub mod Locations
+pub mod ReadSet
 pub mod Members
-pub mod NeverEmpty
+pub mod Lengths
+pub mod Reduced
+-- the pool is never empty
 pub mod Pigeon
 pub mod Pool
-pub mod Preserved
-pub mod ReadSet
-pub mod Reduced
-pub mod Runs
-pub mod Settle
-pub mod Steps
+pub mod NeverEmpty
+-- demand 3
 pub mod Sim
-pub mod Choice
-pub mod Create
+pub mod Assign
+pub mod Agreement
+pub mod Steps
+pub mod Runs
+pub mod Preserved
+-- lists by computation, and the Arm flag
+pub mod Cases
+pub mod Lists
+pub mod Arm

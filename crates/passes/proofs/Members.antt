@@ -23,7 +23,7 @@ use Rattle.mir.proofs.Shapes.{args-kind}
 use Rattle.passes.specs.declared.symbol.Loc.{Loc}
 use Rattle.passes.specs.Color.{Setup, setup, locOf, partner, loc, pairsFrom, reads, isMember, join, joined, foundAt, colorTo}
 use Rattle.passes.specs.Contract.{readSet}
-use Rattle.passes.proofs.Going.{readsAt, members-next}
+use Rattle.passes.proofs.Agreement.{readsAt, members-next}
 use Rattle.passes.proofs.Sim.{same-or}
 use Rattle.passes.proofs.ReadSet.{InLocs, Once, member-append, member-last, join-keeps, joined-keeps, joined-once, joined-more}
 

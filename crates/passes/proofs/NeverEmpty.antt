@@ -24,12 +24,12 @@ use Rattle.mir.proofs.Passing.{ListPasses, list-passes}
 use Rattle.mir.proofs.Renaming.{gens-fit-both}
 use Rattle.passes.specs.declared.alloc.Alloc.{Alloc}
 use Rattle.passes.specs.declared.alloc.Held.{Held}
-use Rattle.passes.specs.Color.{Setup, setup, Coloring, colourAt, blank, wanted, settle, locOf, HavePools, afterDests, sourcesAt, destsAt, colorStep, colorTo}
+use Rattle.passes.specs.Color.{Setup, setup, Coloring, colourAt, blank, wanted, updateAllocs, locOf, HavePools, afterDests, sourcesAt, destsAt, colorStep, colorTo}
 use Rattle.passes.specs.Create.{endsOf}
 use Rattle.passes.specs.Machine.{Passing}
 use Rattle.passes.proofs.Create.{names-to, not-fresh, gone-end, regs-length}
 use Rattle.passes.proofs.Pool.{Owner, Owned, Below, words, Before, After, walk}
-use Rattle.passes.proofs.Settle.{settle-life, settle-length, blank-life}
+use Rattle.passes.proofs.Locations.{update-life, update-length, blank-life}
 
 -- the words of the destinations, with or without what they are wanted with
 same-words : (ws : List ℕ) (h : Held) → words (map (λ (y : ℕ). (y, h)) ws) ≡ ws
@@ -130,19 +130,19 @@ module _ (s : Settings) (list table : List ℕ) (passes : ListPasses s list tabl
     unfolding st
     given = afterDests (s .«count_regs») i (endsOf list) (destsAt (setup s list table) i st) st
 
-    settled : List Alloc
+    updated : List Alloc
     unfolding st given act
-    settled =
+    updated =
         let srcs = sourcesAt (setup s list table) i st in
-        settle act (locOf (recordAt list i)) (getD srcs 0 0) (getD srcs 1 0) (given .allocs)
+        updateAllocs act (locOf (recordAt list i)) (getD srcs 0 0) (getD srcs 1 0) (given .allocs)
 
-    reset : act ≡ action.Clear → (c : ℕ) → colourAt settled c .life ≡ 0
-    unfolding settled
+    reset : act ≡ action.Clear → (c : ℕ) → colourAt updated c .life ≡ 0
+    unfolding updated
     reset e c = rw e (blank-life c)
 
-    goes-on : (act ≡ action.Clear → ⊥) → (c : ℕ) → colourAt settled c .life ≡ colourAt (given .allocs) c .life
-    unfolding settled
-    goes-on h c = settle-life _ _ _ (given .allocs) act h c
+    goes-on : (act ≡ action.Clear → ⊥) → (c : ℕ) → colourAt updated c .life ≡ colourAt (given .allocs) c .life
+    unfolding updated
+    goes-on h c = update-life _ _ _ (given .allocs) act h c
 
     owner : (act ≡ action.Clear → ⊥) → (c : ℕ) → c < s .«count_regs» → i < colourAt (given .allocs) c .life
         → Owner (s .«count_regs») (endsOf list) (regsTo list (suc i)) (given .colours) c (colourAt (given .allocs) c .life)
@@ -150,7 +150,7 @@ module _ (s : Settings) (list table : List ℕ) (passes : ListPasses s list tabl
     owner h c l p = rw (regs-next list i h) (subst (λ (ws : List ℕ). Owner (s .«count_regs») (endsOf list) (produced ws (staticsTo list i) (regsTo list i)) (given .colours) c (colourAt (given .allocs) c .life)) (wanted-words (dests (recordAt list i)) _ _) (done ready .owned c l p))
 
     ready-next : Ready (setup s list table) (suc i)
-    unfolding colorTo colorStep Owned staticsTo st act given settled
+    unfolding colorTo colorStep Owned staticsTo st act given updated
     ready-next =
         record {
           next = done ready .next ∙ ap (λ (ws : List ℕ). staticsTo list i + gens ws) (wanted-words (dests (recordAt list i)) _ _);
@@ -158,7 +158,7 @@ module _ (s : Settings) (list table : List ℕ) (passes : ListPasses s list tabl
               (λ (h : act ≡ action.Clear → ⊥).
               let q = goes-on h c in
               rw q (owner h c l (omega (arith, q)))) (clear-or act);
-          enough = settle-length _ _ _ (given .allocs) act (done ready .enough ∙ ready .enough);
+          enough = update-length _ _ _ (given .allocs) act (done ready .enough ∙ ready .enough);
           below = done ready .below;
         }
 

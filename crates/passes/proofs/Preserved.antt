@@ -22,18 +22,18 @@ use Rattle.mir.proofs.Folds.{all-at}
 use Rattle.mir.proofs.Passing.{ListPasses, list-passes}
 use Rattle.mir.proofs.Records.{words-at}
 use Rattle.passes.specs.declared.alloc.Alloc.{Alloc}
-use Rattle.passes.specs.declared.alloc.Fate.the-variants.{Kept}
+use Rattle.passes.specs.declared.alloc.Outcome.the-variants.{Kept}
 use Rattle.passes.specs.declared.alloc.Held.the-variants.{At}
 use Rattle.passes.specs.declared.symbol.Loc.{Loc}
 use Rattle.passes.specs.Color.{Setup, setup, colorTo, colourAt, blank}
-use Rattle.passes.specs.Contract.{isKept, fateAt, outAt, reducedTo, reduced, countTo}
+use Rattle.passes.specs.Contract.{isKept, outcomeAt, outAt, reducedTo, reduced, countTo}
 use Rattle.passes.specs.Machine.{Meaning, State, turn, runTo, run, isScalar, AllScalar, Passing, EndsEqual}
 use Rattle.passes.proofs.Create.{not-fresh}
-use Rattle.passes.proofs.Given.{Live}
-use Rattle.passes.proofs.Going.{Going}
+use Rattle.passes.proofs.Assign.{Live}
+use Rattle.passes.proofs.Agreement.{Going}
 use Rattle.passes.proofs.Lengths.{out-length, reduced-length}
 use Rattle.passes.proofs.Runs.{record-length, run-append}
-use Rattle.passes.proofs.Settle.{blank-nothing}
+use Rattle.passes.proofs.Locations.{blank-nothing}
 use Rattle.passes.proofs.Steps.{Stopped, Agree, Steps, ends-equal, nop-step, end-step, uni-step, bi-step, mov-step, load-step, save-step, load-const-step, fused-step, if-else-step, load-math-step, load-const-math-step}
 
 -- a record of eight words is its words
@@ -106,9 +106,9 @@ module _ (s : Settings) (list table : List ℕ) (passes : ListPasses s list tabl
   b-run i = run m (reducedTo (fixedMark s) (setup s list table) i) start
 
   b-next : (i : ℕ) → i < records list
-      → b-run (suc i) ≡ cond (isKept (fateAt (fixedMark s) (setup s list table) i)) (turn m (outAt (setup s list table) i) (b-run i)) (b-run i)
+      → b-run (suc i) ≡ cond (isKept (outcomeAt (fixedMark s) (setup s list table) i)) (turn m (outAt (setup s list table) i) (b-run i)) (b-run i)
   unfolding reducedTo
-  b-next i inside = go (isKept (fateAt (fixedMark s) u i))
+  b-next i inside = go (isKept (outcomeAt (fixedMark s) u i))
     where
       u : Setup
       u = setup s list table
@@ -130,7 +130,7 @@ module _ (s : Settings) (list table : List ℕ) (passes : ListPasses s list tabl
       rw (b-next i inside)
       (⊎-elim (λ (g : Going s list table i (a-run i) (b-run i)). step i inside (a-run i) (b-run i) g h)
       (λ (g : Stopped s list table (a-run i) (b-run i)).
-      inr (stopped (isKept (fateAt (fixedMark s) (setup s list table) i)) g))
+      inr (stopped (isKept (outcomeAt (fixedMark s) (setup s list table) i)) g))
       k)
     where
       stopped : (b : Bool) → Stopped s list table (a-run i) (b-run i)

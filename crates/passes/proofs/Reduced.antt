@@ -26,15 +26,15 @@ use Rattle.mir.proofs.Shapes.{regs-in-record, regs-after-kind, register-limit, 
 use Rattle.passes.specs.declared.alloc.Alloc.{Alloc}
 use Rattle.passes.specs.declared.alloc.Choice.{Choice}
 use Rattle.passes.specs.declared.alloc.Choice.the-variants.{Found, Free, Empty}
-use Rattle.passes.specs.declared.alloc.Fate.the-variants.{Kept}
+use Rattle.passes.specs.declared.alloc.Outcome.the-variants.{Kept}
 use Rattle.passes.specs.declared.alloc.Held.{Held}
 use Rattle.passes.specs.Color.{Setup, setup, Coloring, choose, chosen, afterDest, wordFor, wordsFor, sourceWord, sourcesAt, destsAt, colored, colorTo}
-use Rattle.passes.specs.Contract.{outAt, fateAt, isKept, reducedTo, reduced, countTo}
+use Rattle.passes.specs.Contract.{outAt, outcomeAt, isKept, reducedTo, reduced, countTo}
 use Rattle.passes.specs.Create.{endsOf}
 use Rattle.passes.specs.Machine.{Passing}
 use Rattle.passes.proofs.Choice.{choose-free, choose-found}
 use Rattle.passes.proofs.Create.{In}
-use Rattle.passes.proofs.Going.{all-in, source-below}
+use Rattle.passes.proofs.Agreement.{all-in, source-below}
 use Rattle.passes.proofs.Lengths.{dest-words-length, source-words-length, out-length, kept-next, reduced-length}
 use Rattle.passes.proofs.Pool.{words, colour-fits}
 use Rattle.passes.proofs.NeverEmpty.{choices-of, wanted-words}
@@ -263,7 +263,7 @@ module _ (s : Settings) (list table : List ℕ) (passes : ListPasses s list tabl
       → shapeNo table (s .«count_regs») (recordAt (reducedTo (fixedMark s) (setup s list table) i) k) ≡ 0
   unfolding reducedTo countTo
   reduced-to-passes zero h k l = absurd (omega arith)
-  reduced-to-passes (suc i) h k l = go (isKept (fateAt (fixedMark s) u i)) (rw (kept-next (fixedMark s) u i) at l) (reduced-to-passes i (omega arith) k)
+  reduced-to-passes (suc i) h k l = go (isKept (outcomeAt (fixedMark s) u i)) (rw (kept-next (fixedMark s) u i) at l) (reduced-to-passes i (omega arith) k)
     where
       u : Setup
       u = setup s list table

@@ -21,21 +21,21 @@ use Rattle.mir.proofs.Renaming.{and-both}
 use Rattle.passes.specs.declared.alloc.Alloc.{Alloc}
 use Rattle.passes.specs.declared.alloc.Choice.{Choice}
 use Rattle.passes.specs.declared.alloc.Choice.the-variants.{Found, Free, Empty}
-use Rattle.passes.specs.declared.alloc.Fate.{Fate}
-use Rattle.passes.specs.declared.alloc.Fate.the-variants as fate
+use Rattle.passes.specs.declared.alloc.Outcome.{Outcome}
+use Rattle.passes.specs.declared.alloc.Outcome.the-variants as outcome
 use Rattle.passes.specs.declared.alloc.Held.{Held}
 use Rattle.passes.specs.declared.alloc.Held.the-variants.{Nothing, At}
 use Rattle.passes.specs.declared.symbol.Loc.{Loc}
-use Rattle.passes.specs.Color.{Setup, setup, Coloring, loc, locOf, colourAt, choose, chosen, isFound, heldBy, sourceWord, wantX, settle, holds, clear, give, isMember, wordFor, wordsFor, afterDests, foundFirst, sourcesAt, destsAt, foundAt, colored, colorStep, colorTo}
-use Rattle.passes.specs.Contract.{fateOf, outAt, fateAt, isKept, readSet, isBeyond}
+use Rattle.passes.specs.Color.{Setup, setup, Coloring, loc, locOf, colourAt, choose, chosen, isFound, heldBy, sourceWord, wantX, updateAllocs, holds, clear, give, isMember, wordFor, wordsFor, afterDests, foundFirst, sourcesAt, destsAt, foundAt, colored, colorStep, colorTo}
+use Rattle.passes.specs.Contract.{outcomeOf, outAt, outcomeAt, isKept, readSet, isBeyond}
 use Rattle.passes.specs.Create.{endsOf}
 use Rattle.passes.specs.Machine.{Word, Meaning, State, write, store, finish, effect, turn, isTrue, EndsEqual}
 use Rattle.passes.proofs.Choice.{choose-found, loc-same}
 use Rattle.passes.proofs.Create.{In}
 use Rattle.passes.proofs.ReadSet.{InLocs}
-use Rattle.passes.proofs.Given.{Live, staticIn, numberIn, heldIn}
-use Rattle.passes.proofs.Going.{Seen, Going, source-same, source-small, cell-same, readsAt, named-step, gives, same-colours, settled-allocs, same-regs}
-use Rattle.passes.proofs.Settle.{give-life, clear-life, saved-holds}
+use Rattle.passes.proofs.Assign.{Live, staticIn, numberIn, heldIn}
+use Rattle.passes.proofs.Agreement.{Seen, Going, source-same, source-small, cell-same, readsAt, named-step, gives, same-colours, updated-allocs, same-regs}
+use Rattle.passes.proofs.Locations.{give-life, clear-life, saved-holds}
 use Rattle.passes.proofs.Sim.{Sim, sim-next, Stored, into-cell, stored-at, stored-else, upd, upd-at, upd-else, same-or}
 
 module _ (s : Settings) (list table : List ℕ) where
@@ -70,7 +70,7 @@ module _ (s : Settings) (list table : List ℕ) where
 
     -- what is to be shown of record i
     abbrev pub Steps : Type 0
-    Steps = Agree (suc i) (turn m rec A) (cond (isKept (fateAt (fixedMark s) u i)) (turn m (outAt u i) B) B)
+    Steps = Agree (suc i) (turn m rec A) (cond (isKept (outcomeAt (fixedMark s) u i)) (turn m (outAt u i) B) B)
 
     first : i ≤ suc i
     first = omega arith
@@ -84,12 +84,12 @@ module _ (s : Settings) (list table : List ℕ) where
     turn-b out = rw (g .b-goes)
 
     -- a record that computes a value v into its one destination
-    module _ (d : ℕ) (one : dests rec ≡ d ∷ []) (other : shapeFor rec .action ≡ action.Other) (v : Word) (kept : fateAt (fixedMark s) u i ≡ fate.Kept)
+    module _ (d : ℕ) (one : dests rec ≡ d ∷ []) (other : shapeFor rec .action ≡ action.Other) (v : Word) (kept : outcomeAt (fixedMark s) u i ≡ outcome.Kept)
         (eff-a : effect m rec A ≡ write d v A) (eff-b : effect m (outAt u i) B ≡ write (wordFor (s .«count_regs») i d Nothing st) v B) where
       goes-on : shapeFor rec .action ≡ action.Clear → ⊥
       goes-on e = let z : _≡_ {A = ℕ} 0 1 = cc in omega arith
 
-      calm : (l : Loc) (x y : ℕ) (allocs : List Alloc) → settle (shapeFor rec .action) l x y allocs ≡ allocs
+      calm : (l : Loc) (x y : ℕ) (allocs : List Alloc) → updateAllocs (shapeFor rec .action) l x y allocs ≡ allocs
       calm l x y allocs = rw other
 
       want : wantX (shapeFor rec .action) (locOf rec) (heldBy (st .allocs) (getD (sourcesAt u i st) 0 0)) ≡ Nothing
@@ -124,48 +124,48 @@ module _ (s : Settings) (list table : List ℕ) where
     same-cell p x h = cell-same s list table passes i inside A B g (loc p x) h
 
     pub uni-step : (w1 w2 w3 w4 w5 w6 w7 : ℕ) → rec ≡ row 2 w1 w2 w3 w4 w5 w6 w7 → Steps
-    unfolding dests sources shapeOf effect outAt colored wordsFor fateAt fateOf
+    unfolding dests sources shapeOf effect outAt colored wordsFor outcomeAt outcomeOf
     uni-step w1 w2 w3 w4 w5 w6 w7 e =
         let out : outAt u i ≡ row 2 w1 (dst w2) (src w3) w4 w5 w6 w7 = rw e in
         computes w2 (rw e) (rw e) (m .uni w1 (A .reg w3)) (rw out) (rw e)
         (rw (out, same w3 (rw e (inl refl))))
 
     pub bi-step : (w1 w2 w3 w4 w5 w6 w7 : ℕ) → rec ≡ row 3 w1 w2 w3 w4 w5 w6 w7 → Steps
-    unfolding dests sources shapeOf effect outAt colored wordsFor fateAt fateOf
+    unfolding dests sources shapeOf effect outAt colored wordsFor outcomeAt outcomeOf
     bi-step w1 w2 w3 w4 w5 w6 w7 e =
         let out : outAt u i ≡ row 3 w1 (dst w2) (src w3) (src w4) w5 w6 w7 = rw e in
         computes w2 (rw e) (rw e) (m .bi w1 (A .reg w3) (A .reg w4)) (rw out) (rw e)
         (rw (out, same w3 (rw e (inl refl)), same w4 (rw e (inr (inl refl)))))
 
     pub load-const-step : (w1 w2 w3 w4 w5 w6 w7 : ℕ) → rec ≡ row 9 w1 w2 w3 w4 w5 w6 w7 → Steps
-    unfolding dests sources shapeOf effect outAt colored wordsFor fateAt fateOf
+    unfolding dests sources shapeOf effect outAt colored wordsFor outcomeAt outcomeOf
     load-const-step w1 w2 w3 w4 w5 w6 w7 e =
         let out : outAt u i ≡ row 9 (dst w1) w2 w3 w4 w5 w6 w7 = rw e in
         computes w1 (rw e) (rw e) (A .const w2) (rw out) (rw e) (rw (out, g .sim .const w2))
 
     pub fused-step : (w1 w2 w3 w4 w5 w6 w7 : ℕ) → rec ≡ row 13 w1 w2 w3 w4 w5 w6 w7 → Steps
-    unfolding dests sources shapeOf effect outAt colored wordsFor fateAt fateOf
+    unfolding dests sources shapeOf effect outAt colored wordsFor outcomeAt outcomeOf
     fused-step w1 w2 w3 w4 w5 w6 w7 e =
         let out : outAt u i ≡ row 13 w1 (dst w2) (src w3) (src w4) (src w5) w6 w7 = rw e in
         computes w2 (rw e) (rw e) (m .fused w1 (A .reg w3) (A .reg w4) (A .reg w5)) (rw out) (rw e)
         (rw (out, same w3 (rw e (inl refl)), same w4 (rw e (inr (inl refl))), same w5 (rw e (inr (inr (inl refl))))))
 
     pub if-else-step : (w1 w2 w3 w4 w5 w6 w7 : ℕ) → rec ≡ row 14 w1 w2 w3 w4 w5 w6 w7 → Steps
-    unfolding dests sources shapeOf effect outAt colored wordsFor fateAt fateOf readsAt
+    unfolding dests sources shapeOf effect outAt colored wordsFor outcomeAt outcomeOf readsAt
     if-else-step w1 w2 w3 w4 w5 w6 w7 e =
         let out : outAt u i ≡ row 14 (dst w1) (src w2) (src w3) w4 w5 w6 w7 = rw e in
         computes w1 (rw e) (rw e) (cond (isTrue (A .cell w4 w5)) (A .reg w2) (A .reg w3)) (rw out) (rw e)
         (rw (out, same-cell w4 w5 (rw e (inl refl)), same w2 (rw e (inl refl)), same w3 (rw e (inr (inl refl)))))
 
     pub load-math-step : (w1 w2 w3 w4 w5 w6 w7 : ℕ) → rec ≡ row 18 w1 w2 w3 w4 w5 w6 w7 → Steps
-    unfolding dests sources shapeOf effect outAt colored wordsFor fateAt fateOf readsAt
+    unfolding dests sources shapeOf effect outAt colored wordsFor outcomeAt outcomeOf readsAt
     load-math-step w1 w2 w3 w4 w5 w6 w7 e =
         let out : outAt u i ≡ row 18 w1 (dst w2) (src w3) w4 w5 w6 w7 = rw e in
         computes w2 (rw e) (rw e) (m .bi w1 (A .reg w3) (A .cell w4 w5)) (rw out) (rw e)
         (rw (out, same-cell w4 w5 (rw e (inl refl)), same w3 (rw e (inl refl))))
 
     pub load-const-math-step : (w1 w2 w3 w4 w5 w6 w7 : ℕ) → rec ≡ row 19 w1 w2 w3 w4 w5 w6 w7 → Steps
-    unfolding dests sources shapeOf effect outAt colored wordsFor fateAt fateOf
+    unfolding dests sources shapeOf effect outAt colored wordsFor outcomeAt outcomeOf
     load-const-math-step w1 w2 w3 w4 w5 w6 w7 e =
         let out : outAt u i ≡ row 19 w1 (dst w2) (src w3) w4 w5 w6 w7 = rw e in
         computes w2 (rw e) (rw e) (m .bi w1 (A .reg w3) (A .const w4)) (rw out) (rw e)
@@ -185,7 +185,7 @@ module _ (s : Settings) (list table : List ℕ) where
           let z : _≡_ {A = ℕ} 0 1 = cc in
           omega arith
 
-      load-calm : (l : Loc) (x y : ℕ) (allocs : List Alloc) → settle (shapeFor rec .action) l x y allocs ≡ allocs
+      load-calm : (l : Loc) (x y : ℕ) (allocs : List Alloc) → updateAllocs (shapeFor rec .action) l x y allocs ≡ allocs
       unfolding shapeOf
       load-calm l x y allocs = rw e
 
@@ -204,9 +204,9 @@ module _ (s : Settings) (list table : List ℕ) where
       unfolding dests sources shapeOf outAt colored wordsFor wordFor pick
       load-out = rw e
 
-      load-fate : fateAt (fixedMark s) u i ≡ cond (isGen w1 && isFound pick) fate.Load fate.Kept
-      unfolding fateAt fateOf shapeOf
-      load-fate = rw (load-out, load-found) refl
+      load-outcome : outcomeAt (fixedMark s) u i ≡ cond (isGen w1 && isFound pick) outcome.Load outcome.Kept
+      unfolding outcomeAt outcomeOf shapeOf
+      load-outcome = rw (load-out, load-found) refl
 
       load-eff : effect m rec A ≡ write w1 (A .cell w2 w3) A
       unfolding effect
@@ -224,7 +224,7 @@ module _ (s : Settings) (list table : List ℕ) where
       load-dropped : (c : ℕ) → isGen w1 ≡ true → pick ≡ Found c → Steps
       unfolding pick
       load-dropped c q f =
-          let dropped : fateAt (fixedMark s) u i ≡ fate.Load = load-fate ∙ rw (q, f) refl in
+          let dropped : outcomeAt (fixedMark s) u i ≡ outcome.Load = load-outcome ∙ rw (q, f) refl in
           let found = choose-found (s .«count_regs») i (st .allocs) (At (loc w2 w3)) c f in
           let l = found .1 .1 in
           let has : B .reg c ≡ A .cell w2 w3 = g .sim .held c (loc w2 w3) (found .0) (found .1 .2 ∙ sym l) in
@@ -252,7 +252,7 @@ module _ (s : Settings) (list table : List ℕ) where
       load-kept : (isGen w1 && isFound pick) ≡ false → Steps
       unfolding effect pick
       load-kept q =
-          let kept : fateAt (fixedMark s) u i ≡ fate.Kept = load-fate ∙ rw q refl in
+          let kept : outcomeAt (fixedMark s) u i ≡ outcome.Kept = load-outcome ∙ rw q refl in
           let v = load-cell q in
           let eff : effect m (outAt u i) B ≡ write (cond (isGen w1) (chosen pick) w1) (A .cell w2 w3) B = rw (load-out, v) in
           rw (kept, turn-a, turn-b (outAt u i), load-eff, eff) (inl (go (isGen w1) refl))
@@ -307,7 +307,7 @@ module _ (s : Settings) (list table : List ℕ) where
           let z : _≡_ {A = ℕ} 0 1 = cc in
           omega arith
 
-      mov-calm : (l : Loc) (x y : ℕ) (allocs : List Alloc) → settle (shapeFor rec .action) l x y allocs ≡ allocs
+      mov-calm : (l : Loc) (x y : ℕ) (allocs : List Alloc) → updateAllocs (shapeFor rec .action) l x y allocs ≡ allocs
       unfolding shapeOf
       mov-calm l x y allocs = rw e
 
@@ -328,9 +328,9 @@ module _ (s : Settings) (list table : List ℕ) where
       unfolding dests sources shapeOf outAt colored wordsFor wordFor mov-pick
       mov-out = rw e
 
-      mov-fate : fateAt (fixedMark s) u i ≡ cond (eqb mov-dst (src w2)) fate.Move fate.Kept
-      unfolding fateAt fateOf shapeOf
-      mov-fate = rw mov-out refl
+      mov-outcome : outcomeAt (fixedMark s) u i ≡ cond (eqb mov-dst (src w2)) outcome.Move outcome.Kept
+      unfolding outcomeAt outcomeOf shapeOf
+      mov-outcome = rw mov-out refl
 
       mov-eff : effect m rec A ≡ write w1 (A .reg w2) A
       unfolding effect
@@ -341,11 +341,11 @@ module _ (s : Settings) (list table : List ℕ) where
       moved = same w2 (rw e (inl refl))
 
       -- dropped or not, the reduced run has the value in the destination
-      mov-run : cond (isKept (fateAt (fixedMark s) u i)) (turn m (outAt u i) B) B ≡ write mov-dst (A .reg w2) B
+      mov-run : cond (isKept (outcomeAt (fixedMark s) u i)) (turn m (outAt u i) B) B ≡ write mov-dst (A .reg w2) B
       unfolding effect
-      mov-run = rw mov-fate (go (eqb mov-dst (src w2)) refl)
+      mov-run = rw mov-outcome (go (eqb mov-dst (src w2)) refl)
         where
-          go : (b : Bool) → eqb mov-dst (src w2) ≡ b → cond (isKept (cond b fate.Move fate.Kept)) (turn m (outAt u i) B) B ≡ write mov-dst (A .reg w2) B
+          go : (b : Bool) → eqb mov-dst (src w2) ≡ b → cond (isKept (cond b outcome.Move outcome.Kept)) (turn m (outAt u i) B) B ≡ write mov-dst (A .reg w2) B
           go true q = write-self mov-dst (A .reg w2) (moved ∙ ap (B .reg) (sym (eqb-true mov-dst (src w2) q)))
           go false q = turn-b (outAt u i) ∙ rw (mov-out, ← moved)
 
@@ -381,10 +381,10 @@ module _ (s : Settings) (list table : List ℕ) where
 
     -- Nop does nothing and is dropped
     pub nop-step : (w1 w2 w3 w4 w5 w6 w7 : ℕ) → rec ≡ row 0 w1 w2 w3 w4 w5 w6 w7 → Steps
-    unfolding dests sources shapeOf effect outAt colored wordsFor fateAt fateOf
+    unfolding dests sources shapeOf effect outAt colored wordsFor outcomeAt outcomeOf
     nop-step w1 w2 w3 w4 w5 w6 w7 e =
         let out : outAt u i ≡ row 0 w1 w2 w3 w4 w5 w6 w7 = rw e in
-        let dropped : fateAt (fixedMark s) u i ≡ fate.Nop = rw out in
+        let dropped : outcomeAt (fixedMark s) u i ≡ outcome.Nop = rw out in
         let eff : effect m rec A ≡ A = rw e in
         rw (dropped, turn-a, eff) (inl (record { a-goes = g .a-goes; b-goes = g .b-goes; sim = rw (ea, ec, er) next-sim; live = rw (ea, ec, er) (g .live) }))
       where
@@ -398,7 +398,7 @@ module _ (s : Settings) (list table : List ℕ) where
             omega arith
 
         ea : colorTo u (suc i) .allocs ≡ st .allocs
-        ea = settled-allocs s list table passes i inside A B g none goes-on ∙ rw e
+        ea = updated-allocs s list table passes i inside A B g none goes-on ∙ rw e
 
         ec : colorTo u (suc i) .colours ≡ st .colours
         ec = same-colours s list table passes i inside A B g none goes-on
@@ -411,10 +411,10 @@ module _ (s : Settings) (list table : List ℕ) where
 
     -- End stops both runs
     pub end-step : (w1 w2 w3 w4 w5 w6 w7 : ℕ) → rec ≡ row 1 w1 w2 w3 w4 w5 w6 w7 → Steps
-    unfolding dests sources shapeOf effect outAt colored wordsFor fateAt fateOf
+    unfolding dests sources shapeOf effect outAt colored wordsFor outcomeAt outcomeOf
     end-step w1 w2 w3 w4 w5 w6 w7 e =
         let out : outAt u i ≡ row 1 w1 w2 w3 w4 w5 w6 w7 = rw e in
-        let kept : fateAt (fixedMark s) u i ≡ fate.Kept = rw out in
+        let kept : outcomeAt (fixedMark s) u i ≡ outcome.Kept = rw out in
         let eff-a : effect m rec A ≡ finish A = rw e in
         let eff-b : effect m (outAt u i) B ≡ finish B = rw out in
         let q = ends-equal i A B g in
@@ -437,7 +437,7 @@ module _ (s : Settings) (list table : List ℕ) where
 
       save-allocs : colorTo u (suc i) .allocs ≡ give (src w1) (loc w2 w3) (clear (loc w2 w3) (st .allocs))
       unfolding shapeOf sources
-      save-allocs = settled-allocs s list table passes i inside A B g save-none save-goes ∙ rw e
+      save-allocs = updated-allocs s list table passes i inside A B g save-none save-goes ∙ rw e
 
       save-out : outAt u i ≡ row 6 (src w1) w2 w3 w4 w5 w6 w7
       unfolding dests sources shapeOf outAt colored wordsFor
@@ -446,9 +446,9 @@ module _ (s : Settings) (list table : List ℕ) where
       abbrev unread : Bool
       unread = isBeyond (fixedMark s) (loc w2 w3) && not (isMember (loc w2 w3) (readSet u))
 
-      save-fate : fateAt (fixedMark s) u i ≡ cond unread fate.Save fate.Kept
-      unfolding fateAt fateOf shapeOf
-      save-fate = rw save-out refl
+      save-outcome : outcomeAt (fixedMark s) u i ≡ cond unread outcome.Save outcome.Kept
+      unfolding outcomeAt outcomeOf shapeOf
+      save-outcome = rw save-out refl
 
       saved : A .reg w1 ≡ B .reg (src w1)
       unfolding sources shapeOf
@@ -496,7 +496,7 @@ module _ (s : Settings) (list table : List ℕ) where
 
       save-dropped : unread ≡ true → Steps
       save-dropped q =
-          let dropped : fateAt (fixedMark s) u i ≡ fate.Save = save-fate ∙ rw q refl in
+          let dropped : outcomeAt (fixedMark s) u i ≡ outcome.Save = save-outcome ∙ rw q refl in
           rw (dropped, turn-a, save-eff)
           (inl
           (save-going B (g .b-goes)
@@ -519,7 +519,7 @@ module _ (s : Settings) (list table : List ℕ) where
       save-kept : unread ≡ false → Steps
       unfolding effect
       save-kept q =
-          let kept : fateAt (fixedMark s) u i ≡ fate.Kept = save-fate ∙ rw q refl in
+          let kept : outcomeAt (fixedMark s) u i ≡ outcome.Kept = save-outcome ∙ rw q refl in
           let eff : effect m (outAt u i) B ≡ store w2 w3 (A .reg w1) B = rw (save-out, ← saved) in
           rw (kept, turn-a, turn-b (outAt u i), save-eff, eff)
           (inl

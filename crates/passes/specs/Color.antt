@@ -219,15 +219,15 @@ abbrev pub give : ℕ → Loc → List Alloc → List Alloc
 give w l allocs = cond (isGen w) (set allocs w (alloc (colourAt allocs w .life) (At l))) allocs
 
 -- what the action does to the colours after the destinations; x and y are the coloured sources
-abbrev pub settle : Action → Loc → ℕ → ℕ → List Alloc → List Alloc
-settle action.Mov l x y allocs = allocs
-settle action.Load l x y allocs = allocs
-settle action.Save l x y allocs = give x l (clear l allocs)
-settle action.LoadComplex l x y allocs = allocs
-settle action.SaveComplex l x y allocs = give y (partner l) (give x l (clear (partner l) (clear l allocs)))
-settle action.LoadArgs l x y allocs = allocs
-settle action.Clear l x y allocs = blank
-settle action.Other l x y allocs = allocs
+abbrev pub updateAllocs : Action → Loc → ℕ → ℕ → List Alloc → List Alloc
+updateAllocs action.Mov l x y allocs = allocs
+updateAllocs action.Load l x y allocs = allocs
+updateAllocs action.Save l x y allocs = give x l (clear l allocs)
+updateAllocs action.LoadComplex l x y allocs = allocs
+updateAllocs action.SaveComplex l x y allocs = give y (partner l) (give x l (clear (partner l) (clear l allocs)))
+updateAllocs action.LoadArgs l x y allocs = allocs
+updateAllocs action.Clear l x y allocs = blank
+updateAllocs action.Other l x y allocs = allocs
 
 -- the locations that a record reads: a Load's that is not put out joins nothing
 abbrev pub reads : Action → Bool → Loc → List Loc → Bool → List Loc
@@ -289,7 +289,7 @@ colorStep u i st =
     let given = afterDests (u .count) i (u .ends) (destsAt u i st) st in
     let pairs = pairsFrom (u .table) (wordAt rec 1) (wordAt rec 2) in
     record {
-      allocs = settle (shape .action) (locOf rec) (getD srcs 0 0) (getD srcs 1 0) (given .allocs);
+      allocs = updateAllocs (shape .action) (locOf rec) (getD srcs 0 0) (getD srcs 1 0) (given .allocs);
       colours = given .colours;
       members =
           joined (given .members) (reads (shape .action) (foundAt u i st) (locOf rec) pairs (not (eqb (shape .loc) 0)));

@@ -9,8 +9,8 @@ use Rattle.mir.specs.declared.shape.Action.{Action}
 use Rattle.mir.specs.declared.shape.Action.the-variants as action
 use Rattle.mir.specs.Records.{records, recordAt, wordAt, fixedMark}
 use Rattle.mir.specs.Shapes.{shapeFor, nop, mov, save, saveComplex}
-use Rattle.passes.specs.declared.alloc.Fate.{Fate}
-use Rattle.passes.specs.declared.alloc.Fate.the-variants.{Kept, Nop, Load, Move, Save}
+use Rattle.passes.specs.declared.alloc.Outcome.{Outcome}
+use Rattle.passes.specs.declared.alloc.Outcome.the-variants.{Kept, Nop, Load, Move, Save}
 use Rattle.passes.specs.declared.symbol.Loc.{Loc}
 use Rattle.passes.specs.Color.{Setup, setup, Coloring, colorTo, colored, foundAt, locOf, partner, isMember}
 
@@ -31,8 +31,8 @@ isBeyond mark l = eqb (l .space) 0 && leb mark (l .index)
 
 -- what becomes of a coloured record: `found` says that it is a load whose location was found, and `members` is the
 -- whole read set
-unfoldable pub fateOf : ℕ → List Loc → Bool → List ℕ → Fate
-fateOf mark members found rec =
+unfoldable pub outcomeOf : ℕ → List Loc → Bool → List ℕ → Outcome
+outcomeOf mark members found rec =
     let kind = wordAt rec 0 in
     let l = locOf rec in
     cond (eqb kind nop) Nop
@@ -49,10 +49,10 @@ readSet u = colorTo u (records (u .list)) .members
 unfoldable pub outAt : Setup → ℕ → List ℕ
 outAt u i = colored u i (colorTo u i)
 
-unfoldable pub fateAt : ℕ → Setup → ℕ → Fate
-fateAt mark u i = fateOf mark (readSet u) (foundAt u i (colorTo u i)) (outAt u i)
+unfoldable pub outcomeAt : ℕ → Setup → ℕ → Outcome
+outcomeAt mark u i = outcomeOf mark (readSet u) (foundAt u i (colorTo u i)) (outAt u i)
 
-abbrev pub isKept : Fate → Bool
+abbrev pub isKept : Outcome → Bool
 isKept Kept = true
 isKept Nop = false
 isKept Load = false
@@ -62,7 +62,7 @@ isKept Save = false
 -- the reduced list: the records that are kept, in order
 unfoldable pub reducedTo : ℕ → Setup → ℕ → List ℕ
 reducedTo mark u zero = []
-reducedTo mark u (suc i) = reducedTo mark u i ++ cond (isKept (fateAt mark u i)) (outAt u i) []
+reducedTo mark u (suc i) = reducedTo mark u i ++ cond (isKept (outcomeAt mark u i)) (outAt u i) []
 
 unfoldable pub reduced : Settings → List ℕ → List ℕ → List ℕ
 reduced s list table = reducedTo (fixedMark s) (setup s list table) (records list)
@@ -74,17 +74,17 @@ coloursOf s list table = colorTo (setup s list table) (records list) .colours
 unfoldable pub membersOf : Settings → List ℕ → List ℕ → List Loc
 membersOf s list table = readSet (setup s list table)
 
--- how many of the first n records have a fate
-abbrev pub fateNumber : Fate → ℕ
-fateNumber Kept = 0
-fateNumber Nop = 1
-fateNumber Load = 2
-fateNumber Move = 3
-fateNumber Save = 4
+-- how many of the first n records have a outcome
+abbrev pub outcomeNumber : Outcome → ℕ
+outcomeNumber Kept = 0
+outcomeNumber Nop = 1
+outcomeNumber Load = 2
+outcomeNumber Move = 3
+outcomeNumber Save = 4
 
-unfoldable pub countTo : Fate → ℕ → Setup → ℕ → ℕ
+unfoldable pub countTo : Outcome → ℕ → Setup → ℕ → ℕ
 countTo f mark u zero = 0
-countTo f mark u (suc i) = countTo f mark u i + cond (eqb (fateNumber (fateAt mark u i)) (fateNumber f)) 1 0
+countTo f mark u (suc i) = countTo f mark u i + cond (eqb (outcomeNumber (outcomeAt mark u i)) (outcomeNumber f)) 1 0
 
-unfoldable pub countOf : Fate → Settings → List ℕ → List ℕ → ℕ
+unfoldable pub countOf : Outcome → Settings → List ℕ → List ℕ → ℕ
 countOf f s list table = countTo f (fixedMark s) (setup s list table) (records list)

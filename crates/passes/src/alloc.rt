@@ -21,7 +21,7 @@ pub enum Choice {
 }
 
 // What becomes of a record: it is kept, or dropped as one of the four kinds that are counted.
-pub enum Fate {
+pub enum Outcome {
     Kept,
     Nop,
     Load,

@@ -1,4 +1,4 @@
-// Replays stored answers of the original Rust against the C doors. docs/FORMAT.md has the form of its input, which
+// Replays stored answers of the original Rust against the exported functions. docs/FORMAT.md has the form of its input, which
 // importer/ makes; this program needs no Rust.
 use console::length_to;
 use console::word;
@@ -70,11 +70,11 @@ fn read_settings() -> Settings {
     }
 }
 
-// What the door answers; 0 for an operation that there is none of.
+// What the exported function answers; 0 for an operation that there is none of.
 fn answer(op: u32, s: Settings, label: u32, list: &[u32], table: &[u32]) -> u64 {
     match op {
-        1 => entry::rudzaviks_used_registers(list, table, s.count_regs, s.compress),
-        2 => entry::rudzaviks_populate_labels(list, table, s.count_regs, label),
+        1 => rudzaviks::rudzaviks_used_registers(list, table, s.count_regs, s.compress),
+        2 => rudzaviks::rudzaviks_populate_labels(list, table, s.count_regs, label),
         _ => 0,
     }
 }
@@ -85,8 +85,8 @@ fn starts(got: &[u32]) -> bool {
     let mut same = n <= got.len();
     let mut i = 0;
     while i < got.len() {
-        let owed = if i < n { word() } else { FILL };
-        if got[i] != owed {
+        let expected = if i < n { word() } else { FILL };
+        if got[i] != expected {
             same = false;
         }
         i += 1;
@@ -94,19 +94,19 @@ fn starts(got: &[u32]) -> bool {
     same
 }
 
-// Whether `optimize` answers `owed`, and leaves the lent slices as they are stored.
+// Whether `optimize` answers `expected`, and leaves the lent slices as they are stored.
 fn reduces(
     s: Settings,
     list: &[u32],
     table: &[u32],
-    owed: u64,
+    expected: u64,
     out: &mut [u32],
     colours: &mut [u32],
     ends: &mut [u32],
     set: &mut [u32],
     counts: &mut [u32],
 ) -> bool {
-    let got = entry::rudzaviks_optimize(
+    let got = rudzaviks::rudzaviks_optimize(
         list,
         table,
         s.count_regs,
@@ -120,7 +120,7 @@ fn reduces(
         set,
         counts,
     );
-    let mut same = got == owed;
+    let mut same = got == expected;
     same = starts(out) && same;
     same = starts(colours) && same;
     same = starts(ends) && same;
@@ -129,7 +129,7 @@ fn reduces(
 }
 
 // The same, with slices of the stored lengths.
-fn replay_optimize(s: Settings, list: &[u32], table: &[u32], owed: u64) -> bool {
+fn replay_optimize(s: Settings, list: &[u32], table: &[u32], expected: u64) -> bool {
     let mut out = [FILL; OUT];
     let mut colours = [FILL; STATICS];
     let mut ends = [FILL; STATICS];
@@ -144,7 +144,7 @@ fn replay_optimize(s: Settings, list: &[u32], table: &[u32], owed: u64) -> bool 
         s,
         list,
         table,
-        owed,
+        expected,
         &mut out[..o],
         &mut colours[..c],
         &mut ends[..e],
@@ -157,11 +157,11 @@ fn replay_optimize(s: Settings, list: &[u32], table: &[u32], owed: u64) -> bool 
 fn agrees(op: u32, s: Settings, label: u32, list: &[u32], table: &[u32]) -> bool {
     let low = word() as u64;
     let high = word() as u64;
-    let owed = high * 4_294_967_296 + low;
+    let expected = high * 4_294_967_296 + low;
     if op == 3 {
-        return replay_optimize(s, list, table, owed);
+        return replay_optimize(s, list, table, expected);
     }
-    answer(op, s, label, list, table) == owed
+    answer(op, s, label, list, table) == expected
 }
 
 // Whether the next case's answer is the stored one.

@@ -4,7 +4,7 @@ use Rattle.allocator.specs.declared.Answer.the-variants.{Reduced, Refuse
 use mathlib.Core.Path.{_≡_, refl, sym, ap, _∙_}
 use Rattle.mir.specs.Questions.{refusal}
 use Rattle.allocator.specs.Optimize.{lent, roomIn, verdictOf}
-use Rattle.allocator.proofs.Optimizing.{room-in, passing, passed-promise, refused-promise}
+use Rattle.allocator.proofs.Promise.{room-in, passing, passed-promise, refused-promise}
 use borrow.Author.Needs.{needs}
 use Rattle.allocator.proofs.optimize.Statement.{statement}
 use Rattle.allocator.proofs.optimize.Tie as tie

@@ -1,5 +1,5 @@
 -- `allocator::reduce_long` meets its contract: the walks with an index that starts empty.
-use Rattle.allocator.proofs.Index.{indexed-none}
+use Rattle.allocator.proofs.locs.Index.{indexed-none}
 use borrow.Author.Needs.{needs}
 use Rattle.allocator.proofs.reduce_long.Statement.{statement}
 use Rattle.allocator.proofs.reduce_long.Tie as tie

@@ -3,9 +3,9 @@
 use Rattle.passes.specs.Contract.{membersOf}
 use mathlib.Core.Path.{_∙_}
 use native.Mathlib.Omega.{arith}
-use Rattle.allocator.specs.Walks.{Colored}
-use Rattle.allocator.proofs.Pairs.{set-members}
-use Rattle.allocator.proofs.Reducing.{Roomy, roomy, starts, colored, counts-are, few-colours, few-in-set, ends-last}
+use Rattle.allocator.specs.Inner.Walks.{Colored}
+use Rattle.allocator.proofs.locs.Pairs.{set-members}
+use Rattle.allocator.proofs.Walks.{Roomy, roomy, starts, colored, counts-are, few-colours, few-in-set, ends-last}
 use Rattle.passes.specs.Create.{endsOf}
 use lib.ListN.{length}
 use borrow.Author.Needs.{needs}

@@ -1,7 +1,7 @@
 -- `console::show` is safe and ends: the records that the answer counts are in the words.
 -- A reduced file has at most 512 records.
-use Rattle.entry.proofs.Files.{few-in-file}
-use Rattle.entry.specs.File.{recordCount}
+use Rattle.rudzaviks.proofs.reduce.Sections.{few-in-file}
+use Rattle.rudzaviks.specs.File.{recordCount}
 use Rattle.allocator.specs.Optimize.{report}
 use lib.Dec.{leb}
 use native.Mathlib.Omega.{arith}

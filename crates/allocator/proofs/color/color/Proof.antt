@@ -8,12 +8,12 @@ use lib.ListN.{length}
 use Rattle.passes.specs.Color.{colorTo, foundAt}
 use Rattle.passes.specs.Contract.{coloursOf, membersOf}
 use Rattle.allocator.specs.Optimize.{wordsOf}
-use Rattle.allocator.specs.Walks.{Indexed, Slices, slices, Passes, foundsTo, marked, recordStep}
-use Rattle.allocator.proofs.Colouring.{reads-are, Colouring, counted, slicesAt, color-asks, color-gives, found-gives, read-asks, read-gives, colours-same, ends-same}
-use Rattle.allocator.proofs.Marked.{slices-same}
-use Rattle.allocator.proofs.Pairs.{set-length, set-pairs}
+use Rattle.allocator.specs.Inner.Walks.{Indexed, Slices, slices, Passes, foundsTo, marked, recordStep}
+use Rattle.allocator.proofs.color.Invariant.{reads-are, Colouring, counted, slicesAt, color-asks, color-gives, found-gives, read-asks, read-gives, colours-same, ends-same}
+use Rattle.allocator.proofs.color.Dests.{slices-same}
+use Rattle.allocator.proofs.locs.Pairs.{set-length, set-pairs}
 use Rattle.passes.proofs.NeverEmpty.{ready-to}
-use Rattle.allocator.proofs.Walked.{walked-first, walked-next, few-words, gens-fit, few-statics, passing-list}
+use Rattle.allocator.proofs.Registers.{walked-first, walked-next, few-words, gens-fit, few-statics, passing-list}
 use borrow.Author.Needs.{needs}
 use Rattle.allocator.proofs.color.color.Statement.{statement}
 use Rattle.allocator.proofs.color.color.Tie as tie

@@ -7,7 +7,7 @@ use native.Mathlib.Omega.{arith}
 use borrow.Author.Tests.{lt-ltb, le-ltb}
 use Rattle.passes.specs.Color.{choose}
 use Rattle.passes.proofs.Choice.{choose-found, choose-free}
-use Rattle.allocator.specs.Walks.{Picks, destStep}
+use Rattle.allocator.specs.Inner.Walks.{Picks, destStep}
 use borrow.Author.Needs.{needs}
 use Rattle.allocator.proofs.color.color_dest.Statement.{statement}
 use Rattle.allocator.proofs.color.color_dest.Tie as tie

@@ -4,8 +4,8 @@ use native.Mathlib.Omega.{arith}
 use denote.Ref.{now}
 use Rattle.mir.specs.Shapes.{listed}
 use Rattle.mir.proofs.Renaming.{one-le}
-use Rattle.allocator.specs.Walks.{Slices, slices, destStep, destSteps}
-use Rattle.allocator.proofs.Marked.{slices-same}
+use Rattle.allocator.specs.Inner.Walks.{Slices, slices, destStep, destSteps}
+use Rattle.allocator.proofs.color.Dests.{slices-same}
 use borrow.Author.Needs.{needs}
 use Rattle.allocator.proofs.color.color_dests.Statement.{statement}
 use Rattle.allocator.proofs.color.color_dests.Tie as tie

@@ -6,9 +6,9 @@ use Rattle.mir.specs.declared.shape.Shape.{Shape}
 use Rattle.mir.specs.Shapes.{shapeFor, dests}
 use Rattle.mir.proofs.Shapes.{isComplex}
 use Rattle.passes.specs.declared.symbol.Loc.{Loc}
-use Rattle.passes.specs.Color.{locOf, heldBy, wantX, wantY, wanted, settle}
-use Rattle.allocator.specs.Walks.{Slices, slices, destSteps, sourceWords, wantedBy, recordStep}
-use Rattle.allocator.proofs.Sourced.{partner-below}
+use Rattle.passes.specs.Color.{locOf, heldBy, wantX, wantY, wanted, updateAllocs}
+use Rattle.allocator.specs.Inner.Walks.{Slices, slices, destSteps, sourceWords, wantedBy, recordStep}
+use Rattle.allocator.proofs.color.Sources.{partner-below}
 use borrow.Author.Needs.{needs}
 use Rattle.allocator.proofs.color.color_record.Statement.{statement}
 use Rattle.allocator.proofs.color.color_record.Tie as tie
@@ -57,8 +57,8 @@ color-dests-requires c κs =
     let a = c .before .before .before .before .before .before .before .before .before .before .before .before .before in
     (a .pre .1 .1 .1 .1 .0, (a .pre .1 .1 .1 .1 .1 .0, (a .pre .1 .1 .1 .1 .1 .1 .0, rw (wants (c .before .before)) (a .pre .1 .1 .1 .1 .1 .1 .1))))
 
-settle-requires : tie.Need-settle-requires
-settle-requires c κs =
+update-allocs-requires : tie.Need-update-allocs-requires
+update-allocs-requires c κs =
     let a = c .before .before .before .before .before .before .before .before .before .before .before .before .before .before .before .before .before .before in (
       rw (c .before .before .before .before .before .before .before .before .before .before .before .before .source-at .ensures) (a .pre .1 .1 .1 .0 0),
       (
@@ -86,12 +86,12 @@ returns c =
     let y = c .before .before .before .before .before .before .before .before .before .before .before .source-at2 .result in
     let l = c .before .before .before .before .before .before .before .before .before .before .before .before .before .before .before .loc-of .result in
     let act = shapeFor (a .args .t2) .action in (
-      c .settle .ensures
-          ∙ (ap (λ (s : Shape). settle (s .action) l x y (d .result)) (c .before .before .before .before .before .before .before .before .before .before .before .before .before .before .before .before .shape-of .ensures)
-          ∙ (ap (λ (m : Loc). settle act m x y (d .result)) (c .before .before .before .before .before .before .before .before .before .before .before .before .before .before .before .loc-of .ensures)
-          ∙ (ap (λ k. settle act (locOf (a .args .t2)) k y (d .result)) (c .before .before .before .before .before .before .before .before .before .before .before .before .before .source-at .ensures)
-          ∙ (ap (λ k. settle act (locOf (a .args .t2)) (getD (sourceWords (a .args .regs) (σ .colours) (a .args .t2)) 0 0) k (d .result)) (c .before .before .before .before .before .before .before .before .before .before .before .source-at2 .ensures)
-          ∙ ap (settle act (locOf (a .args .t2)) (getD (sourceWords (a .args .regs) (σ .colours) (a .args .t2)) 0 0) (getD (sourceWords (a .args .regs) (σ .colours) (a .args .t2)) 1 0)) g)))),
+      c .update-allocs .ensures
+          ∙ (ap (λ (s : Shape). updateAllocs (s .action) l x y (d .result)) (c .before .before .before .before .before .before .before .before .before .before .before .before .before .before .before .before .shape-of .ensures)
+          ∙ (ap (λ (m : Loc). updateAllocs act m x y (d .result)) (c .before .before .before .before .before .before .before .before .before .before .before .before .before .before .before .loc-of .ensures)
+          ∙ (ap (λ k. updateAllocs act (locOf (a .args .t2)) k y (d .result)) (c .before .before .before .before .before .before .before .before .before .before .before .before .before .source-at .ensures)
+          ∙ (ap (λ k. updateAllocs act (locOf (a .args .t2)) (getD (sourceWords (a .args .regs) (σ .colours) (a .args .t2)) 0 0) k (d .result)) (c .before .before .before .before .before .before .before .before .before .before .before .source-at2 .ensures)
+          ∙ ap (updateAllocs act (locOf (a .args .t2)) (getD (sourceWords (a .args .regs) (σ .colours) (a .args .t2)) 0 0) (getD (sourceWords (a .args .regs) (σ .colours) (a .args .t2)) 1 0)) g)))),
       (
         d .ensures .1 .0 ∙ ap (λ ds. destSteps n (a .args .i) (a .args .next) ds σ .colours) w,
         d .ensures .1 .1 ∙ ap (λ ds. destSteps n (a .args .i) (a .args .next) ds σ .ends) w,
@@ -111,7 +111,7 @@ color-record-spec =
     want-x-requires
     want-y-requires
     color-dests-requires
-    settle-requires
+    update-allocs-requires
     same-length
     same-length-2
     returns)

@@ -9,7 +9,7 @@ use lib.ListN.{length}
 use Rattle.passes.specs.declared.symbol.Loc.{Loc}
 use Rattle.passes.specs.Color.{partner, pairsFrom, join, joined}
 use Rattle.allocator.specs.Optimize.{over, wordsOf}
-use Rattle.allocator.proofs.Pairs.{SetHolds, set-first, set-pairs, set-length, set-within, set-grows, join-grows}
+use Rattle.allocator.proofs.locs.Pairs.{SetHolds, set-first, set-pairs, set-length, set-within, set-grows, join-grows}
 use borrow.Author.Needs.{needs}
 use Rattle.allocator.proofs.color.insert_both.Statement.{statement}
 use Rattle.allocator.proofs.color.insert_both.Tie as tie

@@ -13,9 +13,9 @@ use Rattle.mir.proofs.Shapes.{args-kind, isComplex}
 use Rattle.passes.specs.Color.{pairsFrom, joined}
 use Rattle.passes.proofs.Members.{args-inside}
 use Rattle.allocator.specs.Optimize.{over, wordsOf}
-use Rattle.allocator.proofs.Pairs.{set-first}
-use Rattle.allocator.proofs.Sourced.{partner-below}
-use Rattle.allocator.specs.Walks.{Indexed}
+use Rattle.allocator.proofs.locs.Pairs.{set-first}
+use Rattle.allocator.proofs.color.Sources.{partner-below}
+use Rattle.allocator.specs.Inner.Walks.{Indexed}
 use borrow.Author.Needs.{needs}
 use Rattle.allocator.proofs.color.read_record.Statement.{statement}
 use Rattle.allocator.proofs.color.read_record.Tie as tie

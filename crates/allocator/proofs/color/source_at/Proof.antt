@@ -10,8 +10,8 @@ use Rattle.mir.specs.Shapes.{shapeFor, sources}
 use Rattle.mir.proofs.Renaming.{gens-fit-both}
 use Rattle.mir.proofs.Shapes.{regs-in-record}
 use Rattle.passes.specs.Color.{sourceWord}
-use Rattle.allocator.proofs.Ended.{fits-at}
-use Rattle.allocator.proofs.Sourced.{source-none, source-word}
+use Rattle.allocator.proofs.Words.{fits-at}
+use Rattle.allocator.proofs.color.Sources.{source-none, source-word}
 use borrow.Author.Needs.{needs}
 use Rattle.allocator.proofs.color.source_at.Statement.{statement}
 use Rattle.allocator.proofs.color.source_at.Tie as tie

@@ -7,9 +7,9 @@ use native.Mathlib.Omega.{arith}
 use Rattle.mir.proofs.Renaming.{gens-two}
 use Rattle.mir.specs.Records.{fixedMark}
 use Rattle.mir.specs.declared.config.Settings.{Settings}
-use Rattle.allocator.specs.Walks.{Passes, Colored}
-use Rattle.allocator.proofs.Contracting.{Contracting, contracting-first, contract-asks, contracting-next, contracted, ends-same, out-same}
-use Rattle.allocator.proofs.Walked.{Walked, walked-first, walked-next, few-words, gens-fit, few-statics}
+use Rattle.allocator.specs.Inner.Walks.{Passes, Colored}
+use Rattle.allocator.proofs.contract.Invariant.{Contracting, contracting-first, contract-asks, contracting-next, contracted, ends-same, out-same}
+use Rattle.allocator.proofs.Registers.{Walked, walked-first, walked-next, few-words, gens-fit, few-statics}
 use borrow.Author.Needs.{needs}
 use Rattle.allocator.proofs.contract.contract.Statement.{statement}
 use Rattle.allocator.proofs.contract.contract.Tie as tie

@@ -7,7 +7,7 @@ use Rattle.mir.proofs.Renaming.{gens-fit-both}
 use Rattle.mir.specs.Records.{maxRegs}
 use Rattle.mir.specs.Questions.{genFits}
 use Rattle.mir.specs.Folds.{all}
-use Rattle.allocator.proofs.Rewriting.{sources-left, sources-written}
+use Rattle.allocator.proofs.contract.Record.{sources-left, sources-written}
 use borrow.Author.Needs.{needs}
 use Rattle.allocator.proofs.contract.rewrite.Statement.{statement}
 use Rattle.allocator.proofs.contract.rewrite.Tie as tie

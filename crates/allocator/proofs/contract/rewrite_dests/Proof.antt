@@ -6,8 +6,8 @@ use native.Mathlib.Omega.{arith}
 use lib.ListN.{length}
 use Rattle.mir.proofs.Renaming.{one-le}
 use Rattle.mir.specs.Shapes.{listed}
-use Rattle.allocator.specs.Walks.{destWords}
-use Rattle.allocator.proofs.Rewriting.{dests-room}
+use Rattle.allocator.specs.Inner.Walks.{destWords}
+use Rattle.allocator.proofs.contract.Record.{dests-room}
 use borrow.Author.Needs.{needs}
 use Rattle.allocator.proofs.contract.rewrite_dests.Statement.{statement}
 use Rattle.allocator.proofs.contract.rewrite_dests.Tie as tie

@@ -8,8 +8,8 @@ use lib.Seq.{sets}
 use lib.ListN.{length, take, drop}
 use Rattle.mir.specs.Records.{maxRegs}
 use Rattle.passes.specs.Color.{sourceWord}
-use Rattle.allocator.proofs.Rewriting.{changed-next}
-use Rattle.allocator.proofs.Ended.{fits-at}
+use Rattle.allocator.proofs.contract.Record.{changed-next}
+use Rattle.allocator.proofs.Words.{fits-at}
 use borrow.Author.Needs.{needs}
 use Rattle.allocator.proofs.contract.rewrite_words.Statement.{statement}
 use Rattle.allocator.proofs.contract.rewrite_words.Tie as tie

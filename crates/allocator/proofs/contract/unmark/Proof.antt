@@ -1,7 +1,7 @@
 -- `allocator::contract::unmark` meets its contract: x is unmarked before y.
 use mathlib.Core.Path.{sym, ap, _∙_}
 use native.Mathlib.Omega.{arith}
-use Rattle.allocator.specs.Walks.{unmarked}
+use Rattle.allocator.specs.Inner.Walks.{unmarked}
 use Rattle.mir.specs.Shapes.{listed}
 use Rattle.mir.proofs.Renaming.{one-le}
 use borrow.Author.Needs.{needs}

@@ -7,7 +7,8 @@ use lib.ListN.{length, getD, take, drop}
 use Rattle.passes.specs.Create.{consume, consumed}
 use Rattle.passes.proofs.Create.{consumed-length}
 use Rattle.mir.specs.Records.{maxRegs}
-use Rattle.allocator.proofs.Ended.{window-next, fits-at, consumed-next}
+use Rattle.allocator.proofs.Words.{window-next, fits-at}
+use Rattle.allocator.proofs.create.Ends.{consumed-next}
 use borrow.Author.Needs.{needs}
 use Rattle.allocator.proofs.create.consume_words.Statement.{statement}
 use Rattle.allocator.proofs.create.consume_words.Tie as tie

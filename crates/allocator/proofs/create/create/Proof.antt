@@ -9,10 +9,10 @@ use Rattle.mir.proofs.Renaming.{gens-two, statics-two}
 use Rattle.passes.specs.Create.{consumed, endsTo, endsOf}
 use Rattle.passes.proofs.Create.{ends-length}
 use Rattle.allocator.specs.Optimize.{over}
-use Rattle.allocator.specs.Walks.{created}
+use Rattle.allocator.specs.Inner.Walks.{created}
 use Rattle.allocator.proofs.Over.{over-length}
-use Rattle.allocator.proofs.Ended.{ends-next}
-use Rattle.allocator.proofs.Walked.{Walked, walked-first, walked-next, walked-known, few-words, gens-fit, few-statics}
+use Rattle.allocator.proofs.create.Ends.{ends-next}
+use Rattle.allocator.proofs.Registers.{Walked, walked-first, walked-next, walked-known, few-words, gens-fit, few-statics}
 use borrow.Author.Needs.{needs}
 use Rattle.allocator.proofs.create.create.Statement.{statement}
 use Rattle.allocator.proofs.create.create.Tie as tie

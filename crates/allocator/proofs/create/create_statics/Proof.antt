@@ -1,7 +1,7 @@
 -- `allocator::create::create_statics` meets its contract: x is written before y.
 use mathlib.Core.Path.{sym, ap, _∙_}
 use native.Mathlib.Omega.{arith}
-use Rattle.allocator.specs.Walks.{created}
+use Rattle.allocator.specs.Inner.Walks.{created}
 use Rattle.mir.specs.Shapes.{listed}
 use Rattle.mir.proofs.Renaming.{one-le}
 use borrow.Author.Needs.{needs}

@@ -1,5 +1,5 @@
 -- `allocator::locs::cell` meets its contract: three rows of n bytes have a place for each near location.
-use Rattle.allocator.proofs.Index.{cell-in}
+use Rattle.allocator.proofs.locs.Index.{cell-in}
 use native.Mathlib.Omega.{arith}
 use borrow.Author.Needs.{needs}
 use Rattle.allocator.proofs.locs.cell.Statement.{statement}

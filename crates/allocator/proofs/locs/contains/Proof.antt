@@ -1,7 +1,7 @@
 -- `allocator::locs::contains` meets its contract: the index tells of a near location, and the scan of any other.
-use Rattle.allocator.specs.Walks.{rowOf}
+use Rattle.allocator.specs.Inner.Walks.{rowOf}
 use native.Mathlib.Omega.{arith}
-use Rattle.allocator.proofs.Index.{cell-in, row-in}
+use Rattle.allocator.proofs.locs.Index.{cell-in, row-in}
 use mathlib.Core.Path.{sym, _∙_}
 use borrow.Author.Needs.{needs}
 use Rattle.allocator.proofs.locs.contains.Statement.{statement}

@@ -1,13 +1,13 @@
 -- `allocator::locs::extend` meets its contract: the pairs passed have joined.
 -- By the laws of pairs; more pairs leave no fewer members, so the room for all is room for each.
 use lib.ListN.{length}
-use Rattle.allocator.specs.Walks.{Indexed}
+use Rattle.allocator.specs.Inner.Walks.{Indexed}
 use Prim.Native.Nat.{_-_, _≤_}
 use mathlib.Core.Path.{_≡_, refl, subst, _∙_}
 use native.Mathlib.Omega.{arith}
 use denote.Ref.{now}
 use Rattle.passes.specs.Color.{pairsFrom, joined}
-use Rattle.allocator.proofs.Pairs.{SetHolds, set-first, set-pairs, set-length, set-within, extend-room, extend-next, with-next}
+use Rattle.allocator.proofs.locs.Pairs.{SetHolds, set-first, set-pairs, set-length, set-within, extend-room, extend-next, with-next}
 use borrow.Author.Needs.{needs}
 use Rattle.allocator.proofs.locs.extend.Statement.{statement}
 use Rattle.allocator.proofs.locs.extend.Tie as tie

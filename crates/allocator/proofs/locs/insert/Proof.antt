@@ -1,13 +1,13 @@
 -- `allocator::locs::insert` meets its contract: a new member's words go after those of the others.
 -- By the laws of pairs.
 use Rattle.passes.specs.Color.{pairsFrom}
-use Rattle.allocator.proofs.Index.{indexed-old, indexed-join}
+use Rattle.allocator.proofs.locs.Index.{indexed-old, indexed-join}
 use Prim.Native.Nat.{_*_, _+_, _≤_}
 use mathlib.Core.Path.{sym, _∙_}
 use native.Mathlib.Omega.{arith}
 use denote.Ref.{now}
 use lib.ListN.{length, length-set}
-use Rattle.allocator.proofs.Pairs.{insert-old, insert-count, insert-words}
+use Rattle.allocator.proofs.locs.Pairs.{insert-old, insert-count, insert-words}
 use borrow.Author.Needs.{needs}
 use Rattle.allocator.proofs.locs.insert.Statement.{statement}
 use Rattle.allocator.proofs.locs.insert.Tie as tie

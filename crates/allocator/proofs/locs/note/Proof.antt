@@ -1,7 +1,7 @@
 -- `allocator::locs::note` meets its contract: a near location has its byte in the index.
-use Rattle.allocator.specs.Walks.{rowOf}
+use Rattle.allocator.specs.Inner.Walks.{rowOf}
 use native.Mathlib.Omega.{arith}
-use Rattle.allocator.proofs.Index.{cell-in, row-in}
+use Rattle.allocator.proofs.locs.Index.{cell-in, row-in}
 use mathlib.Core.Path.{refl, sym, _∙_}
 use borrow.Author.Needs.{needs}
 use Rattle.allocator.proofs.locs.note.Statement.{statement}

@@ -6,7 +6,7 @@ use mathlib.Core.Path.{_≡_, sym, ap, _∙_}
 use native.Mathlib.Omega.{arith}
 use denote.Ref.{now}
 use Rattle.passes.specs.Color.{sameLoc, isMember, pairsFrom}
-use Rattle.allocator.proofs.Pairs.{member-none, member-more, member-stays}
+use Rattle.allocator.proofs.locs.Pairs.{member-none, member-more, member-stays}
 use borrow.Author.Needs.{needs}
 use Rattle.allocator.proofs.locs.scan.Statement.{statement}
 use Rattle.allocator.proofs.locs.scan.Tie as tie

@@ -4,7 +4,7 @@ use mathlib.Core.Option.{none}
 use Rattle.passes.specs.Color.{isFree, isBare, firstBelow, freeOr, plainChoice}
 use Rattle.passes.specs.declared.alloc.Choice.the-variants.{Empty}
 use mathlib.Core.Path.{_≡_, sym, ap, _∙_}
-use Rattle.allocator.specs.Pools.{placed}
+use Rattle.allocator.specs.Inner.Pools.{placed}
 use borrow.Author.Needs.{needs}
 use Rattle.allocator.proofs.pool.allocate.Statement.{statement}
 use Rattle.allocator.proofs.pool.allocate.Tie as tie

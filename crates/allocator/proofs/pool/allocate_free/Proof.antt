@@ -2,7 +2,7 @@
 use Rattle.passes.specs.Color.{freeOr}
 use Rattle.passes.specs.declared.alloc.Choice.the-variants.{Empty}
 use mathlib.Core.Path.{sym, ap, _∙_}
-use Rattle.allocator.specs.Pools.{placed}
+use Rattle.allocator.specs.Inner.Pools.{placed}
 use borrow.Author.Needs.{needs}
 use Rattle.allocator.proofs.pool.allocate_free.Statement.{statement}
 use Rattle.allocator.proofs.pool.allocate_free.Tie as tie

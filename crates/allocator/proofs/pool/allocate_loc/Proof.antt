@@ -2,7 +2,7 @@
 use mathlib.Core.Option.{none}
 use Rattle.passes.specs.Color.{holdsAt, firstBelow, foundOr, plainChoice}
 use mathlib.Core.Path.{_≡_, sym, ap, _∙_}
-use Rattle.allocator.specs.Pools.{placed}
+use Rattle.allocator.specs.Inner.Pools.{placed}
 use borrow.Author.Needs.{needs}
 use Rattle.allocator.proofs.pool.allocate_loc.Statement.{statement}
 use Rattle.allocator.proofs.pool.allocate_loc.Tie as tie

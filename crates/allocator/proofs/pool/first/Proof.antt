@@ -8,21 +8,21 @@ use native.Mathlib.Omega.{arith}
 use Rattle.passes.specs.declared.alloc.Alloc.{Alloc}
 use mathlib.Core.List.{List}
 use Rattle.passes.specs.Color.{firstBelow, colourAt}
-use Rattle.allocator.specs.Pools.{meets}
-use Rattle.allocator.specs.declared.pool.Wish.{Wish}
-use Rattle.allocator.proofs.Firsts.{first-zero, first-more, first-stops}
+use Rattle.allocator.specs.Inner.Pools.{meets}
+use Rattle.allocator.specs.declared.pool.Criterion.{Criterion}
+use Rattle.allocator.proofs.pool.Search.{first-zero, first-more, first-stops}
 use borrow.Author.Needs.{needs}
 use Rattle.allocator.proofs.pool.first.Statement.{statement}
 use Rattle.allocator.proofs.pool.first.Tie as tie
 
-abbrev at : Wish → ℕ → List Alloc → ℕ → Bool
-at wish i allocs c = meets wish i (colourAt allocs c)
+abbrev at : Criterion → ℕ → List Alloc → ℕ → Bool
+at criterion i allocs c = meets criterion i (colourAt allocs c)
 
 abbrev Inv-loop : tie.InvT-loop
-Inv-loop n i wish allocs c₀ c = (c ≤ n) × (firstBelow (at wish i allocs) c ≡ none)
+Inv-loop n i criterion allocs c₀ c = (c ≤ n) × (firstBelow (at criterion i allocs) c ≡ none)
 
 abbrev μ-loop : tie.MeasureT-loop
-μ-loop n i wish allocs c₀ c = n - c
+μ-loop n i criterion allocs c₀ c = n - c
 
 loop-holds : tie.Need-loop-holds Inv-loop μ-loop
 loop-holds c = (search needs, first-zero _)
@@ -43,7 +43,7 @@ returns : tie.Need-returns Inv-loop μ-loop
 returns c =
     let b = c .before .before .before .before in
     let a = b .before .args in
-    sym (first-stops (at (a .wish) (a .i) (a .t1)) (a .n) (b .loop .c) (c .before .before .before .loop-test .taken) (b .loop .inv .1) (sym (c .before .meets .ensures) ∙ c .if1 .taken))
+    sym (first-stops (at (a .criterion) (a .i) (a .t1)) (a .n) (b .loop .c) (c .before .before .before .loop-test .taken) (b .loop .inv .1) (sym (c .before .meets .ensures) ∙ c .if1 .taken))
 
 add-c : tie.Need-add-c Inv-loop μ-loop
 add-c c = search needs
@@ -55,7 +55,7 @@ loop-again : tie.Need-loop-again Inv-loop μ-loop
 loop-again c =
     let b = c .before .before .before .before in
     let a = b .before .args in
-    (search needs, first-more (at (a .wish) (a .i) (a .t1)) (b .loop .c) (b .loop .inv .1) (sym (c .before .meets .ensures) ∙ c .if1 .left))
+    (search needs, first-more (at (a .criterion) (a .i) (a .t1)) (b .loop .c) (b .loop .inv .1) (sym (c .before .meets .ensures) ∙ c .if1 .left))
 
 returns-2 : tie.Need-returns-2 Inv-loop μ-loop
 returns-2 c =

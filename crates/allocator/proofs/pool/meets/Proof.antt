@@ -3,8 +3,8 @@ use borrow.Author.Needs.{needs}
 use Rattle.allocator.proofs.pool.meets.Statement.{statement}
 use Rattle.allocator.proofs.pool.meets.Tie as tie
 
-enum-known-wish : tie.Need-enum-known-wish
-enum-known-wish c = search needs
+enum-known-criterion : tie.Need-enum-known-criterion
+enum-known-criterion c = search needs
 
 holds-requires : tie.Need-holds-requires
 holds-requires c κs = search needs
@@ -19,7 +19,7 @@ is-free-bare-requires : tie.Need-is-free-bare-requires
 is-free-bare-requires c κs = search needs
 
 returns : tie.Need-returns
-returns c = rw (c .before .before .wish .given .1) (c .holds .ensures)
+returns c = rw (c .before .before .criterion .given .1) (c .holds .ensures)
 
 returns-2 : tie.Need-returns-2
 returns-2 c = rw (c .before .enum-told .given .1)
@@ -31,7 +31,7 @@ pub meets-spec : {M : Type 1} → statement M
 meets-spec =
     tie.close
     (tie.spec
-    enum-known-wish
+    enum-known-criterion
     holds-requires
     enum-told
     enum-told-2

@@ -1,0 +1,75 @@
+-- The promise of `optimize`: of a list that passes, from what the walks left; of any other, from nothing having changed.
+-- Demand 3 is the theorem about the definitions, put to the words that the output starts with.
+use Prim.Native.Nat.{ℕ, _*_}
+use mathlib.Core.Bool.{true}
+use mathlib.Core.List.{List}
+use mathlib.Core.Path.{_≡_, refl, sym, ap, subst, _∙_}
+use native.Mathlib.Omega.{arith}
+use lib.ListN.{length, take}
+use Rattle.mir.specs.declared.config.Settings.{Settings}
+use Rattle.mir.specs.declared.questions.Verdict.the-variants as verdict
+use Rattle.mir.specs.Answers.{answered, refused, unless}
+use Rattle.mir.specs.Records.{records, fixedMark}
+use Rattle.mir.proofs.Passing.{not-passed, room-passes}
+use Rattle.passes.specs.declared.alloc.Outcome.the-variants.{Kept}
+use Rattle.passes.specs.Color.{setup}
+use Rattle.passes.specs.Contract.{reduced, coloursOf, membersOf, countOf}
+use Rattle.passes.specs.Create.{endsOf}
+use Rattle.passes.specs.Machine.{Passing, EndsEqual, run}
+use Rattle.passes.proofs.Lengths.{reduced-length}
+use Rattle.passes.proofs.Preserved.{preserved}
+use Rattle.allocator.specs.declared.Answer.{Answer}
+use Rattle.allocator.specs.Optimize.{Lent, Optimized, roomIn, verdictOf, countsOf, report, recordsIn, over, left, wordsOf}
+use Rattle.allocator.proofs.Over.{over-take}
+
+module _ (s : Settings) (list table : List ℕ) where
+  pub reduced-words : length (reduced s list table) ≡ countOf Kept s list table * 8
+  unfolding reduced countOf
+  reduced-words = reduced-length (fixedMark s) (setup s list table) (records list) (omega arith)
+
+  pub first-count : recordsIn (answered (countsOf s list table)) ≡ countOf Kept s list table
+  unfolding countsOf
+  first-count = refl
+
+  -- the records that the counts name, off a slice that starts with the reduced list
+  pub taken : (old : List ℕ) → take (recordsIn (answered (countsOf s list table)) * 8) (over (reduced s list table) old) ≡ reduced s list table
+  taken old = ap (λ n. take n (over (reduced s list table) old)) (ap (λ n. n * 8) first-count ∙ sym reduced-words) ∙ over-take (reduced s list table) old
+
+module _ (s : Settings) (list table : List ℕ) (held : Lent) where
+  pub room-in : verdictOf s list table held ≡ verdict.Passed → roomIn list table held ≡ true
+  unfolding verdictOf
+  room-in v = room-passes (roomIn list table held) s list table v
+
+  pub passing : verdictOf s list table held ≡ verdict.Passed → Passing s list table
+  unfolding verdictOf Passing
+  passing v = rw (room-in v) at v
+
+  module _ (now : Lent) (given : Answer) where
+    pub passed-promise : verdictOf s list table held ≡ verdict.Passed → report given ≡ answered (countsOf s list table)
+        → now .out ≡ over (reduced s list table) (held .out) → now .colours ≡ over (coloursOf s list table) (held .colours)
+        → now .ends ≡ over (endsOf list) (held .ends) → now .set ≡ over (wordsOf (membersOf s list table)) (held .set) → Optimized s list table held now given
+    passed-promise v a o c e m =
+        record {
+          answer = a ∙ sym (ap (λ w. unless w (countsOf s list table)) v);
+          out = o ∙ sym (ap (λ w. left w (reduced s list table) (held .out)) v);
+          colours = c ∙ sym (ap (λ w. left w (coloursOf s list table) (held .colours)) v);
+          ends = e ∙ sym (ap (λ w. left w (endsOf list) (held .ends)) v);
+          set = m ∙ sym (ap (λ w. left w (wordsOf (membersOf s list table)) (held .set)) v);
+          preserved = λ p scalar k start.
+              subst (λ l. EndsEqual s (run k list start) (run k l start)) (sym kept) (preserved s list table (passing p) scalar k start);
+        }
+      where
+        kept : take (recordsIn (report given) * 8) (now .out) ≡ reduced s list table
+        kept = ap (λ l. take (recordsIn (report given) * 8) l) o ∙ (ap (λ r. take (recordsIn r * 8) (over (reduced s list table) (held .out))) a ∙ taken s list table (held .out))
+
+  module _ (given : Answer) (number index : ℕ) where
+    pub refused-promise : verdictOf s list table held ≡ verdict.Refused number index → report given ≡ refused number index → Optimized s list table held held given
+    refused-promise v a =
+        record {
+          answer = a ∙ sym (ap (λ w. unless w (countsOf s list table)) v);
+          out = sym (ap (λ w. left w (reduced s list table) (held .out)) v);
+          colours = sym (ap (λ w. left w (coloursOf s list table) (held .colours)) v);
+          ends = sym (ap (λ w. left w (endsOf list) (held .ends)) v);
+          set = sym (ap (λ w. left w (wordsOf (membersOf s list table)) (held .set)) v);
+          preserved = λ p. absurd (not-passed number index (sym v ∙ p));
+        }

@@ -1,0 +1,25 @@
+-- The words of a record from a place on, as a loop meets them one by one.
+-- By the laws of `take` and `drop`.
+use Prim.Native.Nat.{ℕ, _+_, _<_, _≤_}
+use mathlib.Core.Bool.{true}
+use mathlib.Core.List.{List, [], _∷_, _++_}
+use mathlib.Core.Path.{_≡_, sym, ap, _∙_}
+use native.Mathlib.Numerals.{add-one}
+use native.Mathlib.Omega.{arith}
+use lib.ListN.{length, getD, take, drop, length-drop}
+use lib.Seq.{take-suc, getD-drop}
+use Rattle.mir.specs.Folds.{all}
+use Rattle.mir.specs.Questions.{genFits}
+use Rattle.mir.proofs.Folds.{all-at, all-words}
+use Rattle.mir.proofs.Renaming.{gen-below}
+
+module _ (ws : List ℕ) (from count : ℕ) (h : from + count ≤ length ws) (j : ℕ) (l : j < count) where
+  pub window-next : take (j + 1) (drop from ws) ≡ take j (drop from ws) ++ getD ws (from + j) 0 ∷ []
+  window-next =
+      let k : j < length (drop from ws) = rw (length-drop from ws) (omega arith) in
+      rw (add-one j) (take-suc (drop from ws) j 0 k ∙ ap (λ w. take j (drop from ws) ++ w ∷ []) (getD-drop from ws j 0))
+
+  pub fits-at : (n : ℕ) → all (genFits n) (take count (drop from ws)) ≡ true → getD ws (from + j) 0 < 256 → getD ws (from + j) 0 < n
+  fits-at n e =
+      gen-below n (getD ws (from + j) 0)
+      (all-at (λ k. genFits n (getD ws (from + k) 0)) count j (sym (all-words (genFits n) ws from count h) ∙ e) l)

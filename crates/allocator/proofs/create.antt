@@ -1,0 +1,2 @@
+-- The second walk, src/create.rt.
+pub mod Ends

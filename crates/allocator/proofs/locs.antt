@@ -1,0 +1,3 @@
+-- The read set, src/locs.rt.
+pub mod Pairs
+pub mod Index

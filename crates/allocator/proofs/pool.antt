@@ -1,0 +1,2 @@
+-- The choices, src/pool.rt.
+pub mod Search

@@ -1,0 +1,3 @@
+-- Inner: no promise is made in these words.
+pub mod Pools
+pub mod Walks

@@ -1,3 +1,0 @@
--- What the C doors answer, in one word.
-pub mod Doors
-pub mod File

@@ -1,0 +1,2 @@
+-- The file's words and layout, src/file.rt.
+pub mod Bytes

@@ -1,0 +1,81 @@
+-- `rudzaviks::file::read_words` meets its contract: the slice starts with the words read.
+-- By the law of one word more.
+use Prim.Native.Nat.{_-_, _≤_}
+use mathlib.Core.Path.{_≡_, refl, ap, _∙_}
+use native.Mathlib.Omega.{arith}
+use lib.ListN.{length}
+use Rattle.allocator.specs.Optimize.{over}
+use Rattle.allocator.proofs.Over.{over-length}
+use Rattle.rudzaviks.specs.File.{wordsIn}
+use Rattle.rudzaviks.proofs.file.Bytes.{words-length, words-next}
+use borrow.Author.Needs.{needs}
+use Rattle.rudzaviks.proofs.file.read_words.Statement.{statement}
+use Rattle.rudzaviks.proofs.file.read_words.Tie as tie
+
+abbrev Inv-loop : tie.InvT-loop
+Inv-loop bytes from n out₀ j₀ out j = (j ≤ n) × (out ≡ over (wordsIn bytes from j) out₀)
+
+abbrev μ-loop : tie.MeasureT-loop
+μ-loop bytes from n out₀ j₀ out j = n - j
+
+-- the slice is as long as it was
+same : (b : tie.At-loop Inv-loop μ-loop) → length (b .loop .out) ≡ length (b .before .before .before .args .out .now)
+same b =
+    let a = b .before .before .before .args in
+    let len = words-length (a .bytes .now) (a .from) (b .loop .j) in
+    ap length (b .loop .inv .1) ∙ over-length (wordsIn (a .bytes .now) (a .from) (b .loop .j)) (a .out .now) (omega arith)
+
+loop-holds : tie.Need-loop-holds Inv-loop μ-loop
+unfolding wordsIn
+loop-holds c = (search needs, refl)
+
+add-word-at : tie.Need-add-word-at Inv-loop μ-loop
+add-word-at c = search needs
+
+word-at-requires : tie.Need-word-at-requires Inv-loop μ-loop
+word-at-requires c κs = search needs
+
+mul-out : tie.Need-mul-out Inv-loop μ-loop
+mul-out c = search needs
+
+slice-write-out : tie.Need-slice-write-out Inv-loop μ-loop
+slice-write-out c = omega (arith, same (c .before .before))
+
+add-j : tie.Need-add-j Inv-loop μ-loop
+add-j c = search needs
+
+loop-less : tie.Need-loop-less Inv-loop μ-loop
+loop-less c = search needs
+
+loop-again : tie.Need-loop-again Inv-loop μ-loop
+loop-again c =
+    let b = c .before .before in
+    let a = c .before .before .before .before .before .args in
+    (search needs, words-next (a .bytes .now) (a .from) (b .loop .j) (b .loop .out) (a .out .now) (c .word-at .result) (b .loop .inv .1) (omega (arith, c .before .loop-test .taken, c .before .before .before .before .before .pre .1)) (c .word-at .ensures))
+
+same-length : tie.Need-same-length Inv-loop μ-loop
+same-length c = same (c .before)
+
+returns : tie.Need-returns Inv-loop μ-loop
+returns c =
+    let b = c .before in
+    let a = c .before .before .before .before .args in
+    let e : b .loop .j ≡ a .n = omega arith in
+    rw e at (b .loop .inv .1)
+
+pub read-words-spec : {M : Type 1} → statement M
+read-words-spec =
+    tie.close
+    (tie.spec
+    Inv-loop
+    μ-loop
+    loop-holds
+    add-word-at
+    word-at-requires
+    mul-out
+    slice-write-out
+    add-j
+    loop-less
+    loop-again
+    same-length
+    returns)

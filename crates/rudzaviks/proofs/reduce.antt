@@ -1,0 +1,2 @@
+-- A file reduced, src/reduce.rt.
+pub mod Sections

@@ -1,0 +1,20 @@
+-- `rudzaviks::reduce::refused` meets its contract: a refusal keeps its number and index, and there is no other case.
+use mathlib.Core.Path.{refl}
+use borrow.Author.Needs.{needs}
+use Rattle.rudzaviks.proofs.reduce.refused.Statement.{statement}
+use Rattle.rudzaviks.proofs.reduce.refused.Tie as tie
+
+enum-told : tie.Need-enum-told
+enum-told c = search needs
+
+enum-known-verdict : tie.Need-enum-known-verdict
+enum-known-verdict c = search needs
+
+returns : tie.Need-returns
+returns c = absurd (c .before .before .pre (c .enum-told .given .1))
+
+returns-2 : tie.Need-returns-2
+returns-2 c = rw (c .before .verdict .given .1) refl
+
+pub refused-spec : {M : Type 1} → statement M
+refused-spec = tie.close (tie.spec enum-told enum-known-verdict returns returns-2)

@@ -1,0 +1,54 @@
+-- `rudzaviks::rudzaviks_reduce` meets its contract: a file that is not well formed is refused by 3, any other by its sections.
+-- By the promise of either case.
+use Rattle.rudzaviks.proofs.reduce.Sections.{bad-verdict, bytes-promise}
+use Rattle.rudzaviks.specs.File.{recordCount, fileCounts, fileWords, bytesOf}
+use Rattle.rudzaviks.specs.Exports.{reportWord, recordsWord}
+use Rattle.mir.specs.Answers.{unless}
+use Rattle.allocator.specs.Optimize.{left}
+use lib.ListN.{length}
+use lib.Dec.{leb}
+use mathlib.Core.Path.{sym, ap, _∙_}
+use Prim.Native.Nat.{_+_, _*_}
+use borrow.Author.Needs.{needs}
+use Rattle.rudzaviks.proofs.rudzaviks_reduce.Statement.{statement}
+use Rattle.rudzaviks.proofs.rudzaviks_reduce.Tie as tie
+
+layout-of-requires : tie.Need-layout-of-requires
+layout-of-requires c κs = search needs
+
+enum-known-pairs : tie.Need-enum-known-pairs
+enum-known-pairs c = search needs
+
+reduce-bytes-requires : tie.Need-reduce-bytes-requires
+reduce-bytes-requires c κs = sym (c .before .before .before .before .layout-of .ensures) ∙ c .before .before .pairs .given .1
+
+enum-told : tie.Need-enum-told
+enum-told c = search needs
+
+refusal-word-requires : tie.Need-refusal-word-requires
+refusal-word-requires c κs = search needs
+
+same-length : tie.Need-same-length
+same-length c = search needs
+
+returns : tie.Need-returns
+returns c = search needs
+
+returns-2 : tie.Need-returns-2
+returns-2 c =
+    let a = c .before .before .before .before .before .before .args in
+    let v = bad-verdict (leb (4 + recordCount (a .file .now) * 32) (length (a .out .now))) (a .file .now) (sym (c .before .before .before .layout-of .ensures) ∙ c .before .enum-told .given .1) in
+    bytes-promise (a .file .now) (a .out .now) (a .out .now) (c .refusal-word .result) (c .refusal-word .ensures ∙ sym (ap (λ w. reportWord recordsWord (unless w (fileCounts (a .file .now)))) v)) (sym (ap (λ w. left w (bytesOf (fileWords (a .file .now))) (a .out .now)) v))
+
+pub rudzaviks-reduce-spec : {M : Type 1} → statement M
+rudzaviks-reduce-spec =
+    tie.close
+    (tie.spec
+    layout-of-requires
+    enum-known-pairs
+    reduce-bytes-requires
+    enum-told
+    refusal-word-requires
+    same-length
+    returns
+    returns-2)

@@ -1,0 +1,68 @@
+-- Public: the answers of the exported functions, each as one 64-bit word. Bits 32 to 55 hold the number of the question that
+-- refused the list, 0 for none, so a refusal is never taken for an answer; a refusal's index stands in bits 0 to 31.
+use Prim.Native.Nat.{ℕ, _+_, _*_, _≤_, _^_}
+use mathlib.Core.Bool.{Bool, not, _&&_}
+use mathlib.Core.List.{List, [], _∷_}
+use mathlib.Core.Path.{_≡_}
+use lib.Dec.{eqb, leb}
+use lib.ListN.{getD, length, take}
+use Rattle.allocator.specs.Optimize.{Lent, roomIn, countsOf, left, wordsOf}
+use Rattle.mir.specs.declared.config.Settings.{Settings}
+use Rattle.mir.specs.declared.questions.Verdict.{Verdict}
+use Rattle.mir.specs.declared.questions.Verdict.the-variants.{Passed}
+use Rattle.mir.specs.Answers.{Report, answered, refused, unless}
+use Rattle.mir.specs.Questions.{refusal}
+use Rattle.passes.specs.Contract.{reduced, coloursOf, membersOf}
+use Rattle.passes.specs.Create.{endsOf}
+use Rattle.passes.specs.Machine.{Meaning, State, run, AllScalar, EndsEqual}
+
+-- a flag is set if its word isn't 0
+abbrev pub flag : ℕ → Bool
+flag w = not (eqb w 0)
+
+-- the settings as numbers
+abbrev pub settingsOf : (countRegs args complex arm compress : ℕ) → Settings
+settingsOf countRegs args complex arm compress =
+    record { «count_regs» = countRegs; args = args; complex = flag complex; arm = flag arm; compress = flag compress }
+
+-- number and index
+abbrev pub refusalWord : ℕ → ℕ → ℕ
+refusalWord number index = number * 2 ^ 32 + index
+
+-- what the values of an answer come to, or the refusal
+abbrev pub reportWord : (List ℕ → ℕ) → Report → ℕ
+reportWord word (answered values) = word values
+reportWord word (refused number index) = refusalWord number index
+
+-- the mask in bits 0 to 31, and how many registers it names in bits 56 to 63
+abbrev pub usedWord : List ℕ → ℕ
+usedWord values = getD values 1 0 * 2 ^ 56 + getD values 0 0
+
+-- the index, or 4,294,967,295 where the label is absent
+abbrev pub placeWord : List ℕ → ℕ
+placeWord values = getD values 0 4294967295
+
+-- ---- rudzaviks_optimize
+
+-- the number of records of the reduced list
+abbrev pub recordsWord : List ℕ → ℕ
+recordsWord values = getD values 0 0
+
+-- the nine questions; question 4 also asks for a slice of at least seven counts
+unfoldable pub verdictWith : Settings → List ℕ → List ℕ → Lent → List ℕ → Verdict
+verdictWith s list table held counts = refusal (roomIn list table held && leb 7 (length counts)) s list table
+
+-- the promise, with what the lent slices held and hold
+pub record RudzaviksOptimize (s : Settings) (list table : List ℕ) (held : Lent) (heldCounts : List ℕ) (now : Lent)
+    (nowCounts : List ℕ) (given : ℕ) : Type 0 where
+  pub word : given ≡ reportWord recordsWord (unless (verdictWith s list table held heldCounts) (countsOf s list table))
+  pub out : now .out ≡ left (verdictWith s list table held heldCounts) (reduced s list table) (held .out)
+  pub colours : now .colours ≡ left (verdictWith s list table held heldCounts) (coloursOf s list table) (held .colours)
+  pub ends : now .ends ≡ left (verdictWith s list table held heldCounts) (endsOf list) (held .ends)
+  pub set : now .set ≡ left (verdictWith s list table held heldCounts) (wordsOf (membersOf s list table)) (held .set)
+  pub counts : nowCounts ≡ left (verdictWith s list table held heldCounts) (countsOf s list table) heldCounts
+  pub preserved :
+      verdictWith s list table held heldCounts ≡ Passed
+      → AllScalar list
+      → (m : Meaning) (start : State)
+      → EndsEqual s (run m list start) (run m (take (given * 8) (now .out)) start)

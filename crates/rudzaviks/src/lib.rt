@@ -1,0 +1,185 @@
+// The functions exported to C: each takes word slices and numbers, and answers in one 64-bit word.
+pub mod file;
+pub mod reduce;
+
+ghost use Prim.Native.Nat.{_≤_};
+ghost use mathlib.Core.List.{[]};
+ghost use mathlib.Core.Path.{_≡_};
+ghost use lib.ListN.{length};
+ghost use Rattle.allocator.specs.Optimize.{lent, over, valuesIn};
+ghost use Rattle.rudzaviks.specs.Exports.{RudzaviksOptimize, flag, settingsOf, refusalWord, reportWord, usedWord, placeWord, recordsWord};
+ghost use Rattle.rudzaviks.specs.declared.file.Layout.the-variants as layout;
+ghost use Rattle.rudzaviks.specs.Inner.{FewUsed};
+ghost use Rattle.rudzaviks.specs.File.{RudzaviksReduce, layoutOf};
+ghost use Rattle.mir.specs.Answers.{unless};
+ghost use Rattle.mir.specs.Beside.{usedRegisters, usedReport, populateLabels, placeReport};
+use crate::file::Layout;
+use crate::file::layout_of;
+use crate::file::write_words;
+use crate::reduce::reduce_sections;
+use allocator::Answer;
+use allocator::Counts;
+use allocator::optimize;
+use mir::Place;
+use mir::Used;
+use mir::config::Settings;
+use mir::questions::Verdict;
+use mir::questions::check;
+
+// A refusal: the question's number above bit 32, the record's index below it.
+fn refusal_word(number: u32, index: u32) -> u64
+    ensures { λ r. ⌜ r ≡ refusalWord number index ⌝ }
+{
+    (number as u64) * 4_294_967_296 + (index as u64)
+}
+
+// The settings, from numbers; a flag is set if its word isn't 0.
+pub fn settings_of(count_regs: u32, args: u32, complex: u32, arm: u32, compress: u32) -> Settings
+    ensures { λ r. ⌜ r ≡ settingsOf «count_regs» args complex arm compress ⌝ }
+{
+    Settings {
+        count_regs,
+        args,
+        complex: complex != 0,
+        arm: arm != 0,
+        compress: compress != 0,
+    }
+}
+
+// The settings that the operations beside the passes look at.
+fn settings_beside(count_regs: u32, compress: u32) -> Settings
+    ensures { λ r. ⌜ (r .«count_regs» ≡ «count_regs») × (r .compress ≡ flag compress) ⌝ }
+{
+    settings_of(count_regs, 0, 0, 0, compress)
+}
+
+fn used_word(used: Used) -> u64
+    requires { ⌜ FewUsed (usedReport used) ⌝ }
+    ensures { λ r. ⌜ r ≡ reportWord usedWord (usedReport used) ⌝ }
+{
+    match used {
+        Used::Registers(mask, count) => (count as u64) * 72_057_594_037_927_936 + (mask as u64),
+        Used::Refused(number, index) => refusal_word(number, index),
+    }
+}
+
+// The registers that a list uses: mask and number, or a refusal.
+#[no_mangle]
+pub extern "C" fn rudzaviks_used_registers(
+    list: &[u32],
+    table: &[u32],
+    count_regs: u32,
+    compress: u32,
+) -> u64
+    ensures { λ r. ⌜ r ≡ reportWord usedWord (usedRegisters «count_regs» (flag compress) (now (list .entry)) (now (table .entry))) ⌝ }
+{
+    let settings = settings_beside(count_regs, compress);
+    used_word(mir::used_registers(list, table, settings))
+}
+
+fn place_word(place: Place) -> u64
+    ensures { λ r. ⌜ r ≡ reportWord placeWord (placeReport place) ⌝ }
+{
+    match place {
+        Place::At(index) => index as u64,
+        Place::Absent => 4_294_967_295,
+        Place::Refused(number, index) => refusal_word(number, index),
+    }
+}
+
+// The place of a label in a list: its index, that it is absent, or a refusal.
+#[no_mangle]
+pub extern "C" fn rudzaviks_populate_labels(
+    list: &[u32],
+    table: &[u32],
+    count_regs: u32,
+    label: u32,
+) -> u64
+    ensures { λ r. ⌜ r ≡ reportWord placeWord (populateLabels «count_regs» label (now (list .entry)) (now (table .entry))) ⌝ }
+{
+    let settings = settings_beside(count_regs, 0);
+    place_word(mir::populate_labels(list, table, settings, label))
+}
+
+// The seven counts at the start of a slice.
+fn write_counts(c: Counts, counts: &mut [u32])
+    requires { ⌜ 7 ≤ length (now counts) ⌝ }
+    ensures { λ _. ⌜ now (counts .exit) ≡ over (valuesIn c) (now (counts .entry)) ⌝ }
+{
+    counts[0] = c.records;
+    counts[1] = c.statics;
+    counts[2] = c.members;
+    counts[3] = c.nops;
+    counts[4] = c.loads;
+    counts[5] = c.moves;
+    counts[6] = c.saves;
+}
+
+fn verdict_word(verdict: Verdict) -> u64
+    ensures { λ r. ⌜ r ≡ reportWord recordsWord (unless verdict []) ⌝ }
+{
+    match verdict {
+        Verdict::Passed => 0,
+        Verdict::Refused(number, index) => refusal_word(number, index),
+    }
+}
+
+// `optimize`: the number of records that the reduced list has, or a refusal; the seven counts go into `counts`.
+#[no_mangle]
+pub extern "C" fn rudzaviks_optimize(
+    list: &[u32],
+    table: &[u32],
+    count_regs: u32,
+    args: u32,
+    complex: u32,
+    arm: u32,
+    compress: u32,
+    out: &mut [u32],
+    colours: &mut [u32],
+    ends: &mut [u32],
+    set: &mut [u32],
+    counts: &mut [u32],
+) -> u64
+    ensures { λ r. ⌜ RudzaviksOptimize (settingsOf «count_regs» args complex arm compress) (now (list .entry)) (now (table .entry)) (lent (now (out .entry)) (now (colours .entry)) (now (ends .entry)) (now (set .entry))) (now (counts .entry)) (lent (now (out .exit)) (now (colours .exit)) (now (ends .exit)) (now (set .exit))) (now (counts .exit)) r ⌝ }
+{
+    let settings = settings_of(count_regs, args, complex, arm, compress);
+    if counts.len() < 7 {
+        return verdict_word(check(list, table, settings, false));
+    }
+    match optimize(list, table, settings, out, colours, ends, set) {
+        Answer::Reduced(c) => {
+            write_counts(c, counts);
+            c.records as u64
+        }
+        Answer::Refused(number, index) => refusal_word(number, index),
+    }
+}
+
+// A well-formed file reduced into bytes.
+fn reduce_bytes(file: &[u8], pairs: usize, records: usize, out: &mut [u8]) -> u64
+    requires { ⌜ layoutOf (now file) ≡ layout.Counts pairs records ⌝ }
+    ensures { λ r. ⌜ RudzaviksReduce (now (file .entry)) (now (out .entry)) (now (out .exit)) r ⌝ }
+{
+    let room = 4 + records * 32 <= out.len();
+    let mut words = [0u32; 4096];
+    match reduce_sections(file, pairs, records, room, &mut words) {
+        Answer::Reduced(c) => {
+            let count = c.records;
+            let end = (count as usize) * 8;
+            write_words(count, &words[..end], out);
+            count as u64
+        }
+        Answer::Refused(number, index) => refusal_word(number, index),
+    }
+}
+
+// The file reduced into bytes: the number of records, or a refusal.
+#[no_mangle]
+pub extern "C" fn rudzaviks_reduce(file: &[u8], out: &mut [u8]) -> u64
+    ensures { λ r. ⌜ RudzaviksReduce (now (file .entry)) (now (out .entry)) (now (out .exit)) r ⌝ }
+{
+    match layout_of(file) {
+        Layout::Counts(pairs, records) => reduce_bytes(file, pairs, records, out),
+        Layout::Bad => refusal_word(3, 0),
+    }
+}
