@@ -1,13 +1,13 @@
 /*
- * The C doors of the machine-list allocator. docs/FORMAT.md explains records, settings and the nine questions.
+ * The C entries of the machine-list allocator. docs/FORMAT.md explains records, settings and the nine questions.
  *
  * A list is records of 8 words of 32 bits each, a table is pairs of words that LoadArgs records name.
  *
  * A slice passes as a pointer and a length in elements: words for a uint32_t pointer, bytes for a uint8_t pointer. The
- * pointer must be aligned for its elements and not null, even if the length is 0; what it then points to plays no part.
+ * pointer must be aligned for its elements and not null, even if the length is 0; what it then points to is not used.
  * A slice that may be written must not overlap any other slice of the same call. A flag is set if it is not 0.
  *
- * Every door answers in one word of 64 bits. Bits 32 to 55 hold the number of the question that refused the list, and
+ * Every entry answers in one word of 64 bits. Bits 32 to 55 hold the number of the question that refused the list, and
  * are 0 if none did. A refusal is 2^32 x number + index: bits 0 to 31 hold the index of the record that was refused, 0
  * with questions 1 to 4. It changes nothing that was lent.
  */

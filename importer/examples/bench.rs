@@ -1,18 +1,18 @@
-//! Times the original and the door on the same lists, and prints a table of both.
+//! Times the original and the port on the same lists, and prints a table of both.
 //!
 //! `cargo run --release --offline --example bench`, in importer/. Timed is the work on lists that
-//! stand ready: the original's `optimize` on its own form of the list, and the door on words and
-//! buffers, which it finds as the run before left them. The door puts its questions; the original
-//! has none. Each run takes as many lists as make 65,536 records, first by one and then by the
-//! other; a time is the middle one of the runs, for one list.
+//! are prepared: the original's `optimize` on its own form of the list, and the port's C entry on
+//! words and buffers, which it finds as the run before left them. The port puts its questions; the
+//! original has none. Each run takes as many lists as make 65,536 records, first by one and then by
+//! the other; a time is the median of the runs, for one list.
 
 use std::time::{Duration, Instant};
 
-use harness::lists::{list, List, Taste};
+use harness::lists::{list, List, Profile};
 use harness::random::Random;
 use harness::run::{self, Ready};
 use harness::settings::Settings;
-use rudzaviks::door::{optimize_word, Buffers};
+use rudzaviks::ffi::{optimize_word, Buffers};
 
 const LENGTHS: [usize; 4] = [64, 512, 4_096, 65_536];
 
@@ -25,9 +25,9 @@ const SETTINGS: Settings =
 
 fn lists(records: usize, straight: bool, cells: u32) -> Vec<List> {
     let mut random = Random::new(records as u64);
-    let taste = Taste { settings: SETTINGS, cells, ..Taste::plain(records) };
-    let taste = if straight { taste.straight() } else { taste };
-    (0..RECORDS / records).map(|_| list(&mut random, &taste)).collect()
+    let profile = Profile { settings: SETTINGS, cells, ..Profile::plain(records) };
+    let profile = if straight { profile.straight() } else { profile };
+    (0..RECORDS / records).map(|_| list(&mut random, &profile)).collect()
 }
 
 /// The original's time for all lists.
@@ -38,8 +38,8 @@ fn time_original(lists: &[List]) -> Duration {
     start.elapsed()
 }
 
-/// The door's time for all lists, and its answers.
-fn time_door(lists: &[List], buffers: &mut [Buffers]) -> (Duration, Vec<u64>) {
+/// The port's time for all lists, and its answers.
+fn time_port(lists: &[List], buffers: &mut [Buffers]) -> (Duration, Vec<u64>) {
     let mut answers = Vec::with_capacity(lists.len());
     let start = Instant::now();
     for (list, buffers) in lists.iter().zip(buffers) {
@@ -49,24 +49,25 @@ fn time_door(lists: &[List], buffers: &mut [Buffers]) -> (Duration, Vec<u64>) {
     (start.elapsed(), answers)
 }
 
-fn middle(mut times: Vec<Duration>) -> Duration {
+fn median(mut times: Vec<Duration>) -> Duration {
     times.sort();
     times[times.len() / 2]
 }
 
-/// The middle times of the original and of the door, for one list, in microseconds.
+/// The median times of the original and of the port, for one list, in microseconds.
 fn times(lists: &[List]) -> [f64; 2] {
-    let owed: Vec<u64> = lists.iter().map(|list| run::optimize(list).len() as u64 / 8).collect();
+    let expected: Vec<u64> =
+        lists.iter().map(|list| run::optimize(list).len() as u64 / 8).collect();
     let new = |list: &List| Buffers::new(list.words.len(), list.table.len());
     let mut buffers: Vec<Buffers> = lists.iter().map(new).collect();
-    let (mut original, mut door) = (Vec::new(), Vec::new());
+    let (mut original, mut port) = (Vec::new(), Vec::new());
     for _ in 0..RUNS {
         original.push(time_original(lists));
-        let (time, answers) = time_door(lists, &mut buffers);
-        assert!(answers == owed, "the door leaves other records than the original");
-        door.push(time);
+        let (time, answers) = time_port(lists, &mut buffers);
+        assert!(answers == expected, "the port leaves other records than the original");
+        port.push(time);
     }
-    [original, door].map(|times| middle(times).as_secs_f64() * 1e6 / lists.len() as f64)
+    [original, port].map(|times| median(times).as_secs_f64() * 1e6 / lists.len() as f64)
 }
 
 fn main() {

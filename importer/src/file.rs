@@ -1,7 +1,7 @@
 //! A list as a file: words of four bytes, low byte first, in the order settings, count of pairs,
 //! pairs, count of records, records.
 
-use crate::door::{self, Refusal, Settings};
+use crate::ffi::{self, Refusal, Settings};
 use crate::record::{Records, WORDS};
 
 /// The most records, and the most pairs, that a file holds.
@@ -55,7 +55,7 @@ fn section(words: &[u32], each: usize) -> Option<(&[u32], &[u32])> {
 pub fn reduce(file: &[u8]) -> Result<Vec<u32>, Refusal> {
     // As long as the file is long enough: it has every record, and more counts than one.
     let mut out = vec![0; file.len()];
-    let count = door::reduce(file, &mut out)?;
+    let count = ffi::reduce(file, &mut out)?;
     let (words, _) = out[4..].as_chunks();
     Ok(words[..count * WORDS].iter().map(|bytes| u32::from_le_bytes(*bytes)).collect())
 }

@@ -5,7 +5,7 @@ use std::fmt;
 /// A register.
 #[derive(Clone, Copy, Debug, PartialEq, Eq, Hash)]
 pub enum Reg {
-    /// A general register. Only these are given out anew.
+    /// A general register. Only these are assigned anew.
     Gen(u8),
     /// The register of results, `%$`.
     Ret,
@@ -66,7 +66,7 @@ operations! {
     UniOp {
         /// The negative.
         Neg,
-        /// Every bit turned.
+        /// Every bit inverted.
         Not,
         /// The absolute value.
         Abs,

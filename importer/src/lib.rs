@@ -1,13 +1,13 @@
 //! The machine-list allocator, from Rust.
 //!
 //! A formula, compiled to a list of [`Instruction`]s, is shortened by [`reduce`]: registers are
-//! given out anew, and loads, moves and saves that are then not needed are dropped. The work is
-//! done by a verified library, behind the C doors of [`door`]. A list that breaks its rules is
+//! assigned anew, and loads, moves and saves that are then not needed are dropped. The work is done
+//! by a verified library, called through the C entries of [`ffi`]. A list that breaks its rules is
 //! refused, and the [`Refusal`] says by which question and at which record.
 //!
 //! ```
 //! use rudzaviks::mir::{load_const, load_mem, reg, save_mem, save_stack};
-//! use rudzaviks::{reduce, Fate, Settings};
+//! use rudzaviks::{reduce, Outcome, Settings};
 //!
 //! let list = [
 //!     load_const(reg(0), 5),
@@ -19,8 +19,8 @@
 //!
 //! let reduced = reduce(&list, &settings)?;
 //! assert_eq!(reduced.list, list[..2]);
-//! assert_eq!(reduced.fates[..2], [Fate::Kept(0), Fate::Kept(1)]);
-//! assert_eq!(reduced.fates[2].to_string(), "dropped: Mem[3] is already in %0");
+//! assert_eq!(reduced.outcomes[..2], [Outcome::Kept(0), Outcome::Kept(1)]);
+//! assert_eq!(reduced.outcomes[2].to_string(), "dropped: Mem[3] is already in %0");
 //!
 //! // There is no register 1 where there is one register.
 //! let refusal = reduce(&[load_mem(reg(1), 3)], &settings).unwrap_err();
@@ -33,17 +33,17 @@
 
 #![warn(missing_docs)]
 
-pub mod door;
+pub mod ffi;
 pub mod file;
 pub mod mir;
 pub mod record;
 pub mod text;
 
-mod fate;
 mod instruction;
+mod outcome;
 mod reduced;
 
-pub use door::{Counts, Refusal, Settings};
-pub use fate::{Fate, Reason};
+pub use ffi::{Counts, Refusal, Settings};
 pub use instruction::{ArithOp, BinOp, FusedOp, Instruction, Loc, Reg, UniOp};
+pub use outcome::{Outcome, Reason};
 pub use reduced::{reduce, Reduced};

@@ -1,4 +1,4 @@
-//! Lists as the doors take them: records of 8 words, and a table of locations beside them.
+//! Lists as the C entries take them: records of 8 words, and a table of locations beside them.
 
 use std::fmt;
 

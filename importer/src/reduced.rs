@@ -1,8 +1,8 @@
 //! Reducing a list of instructions.
 
-use crate::door::{optimize, Answer, Buffers, Counts, Refusal, Settings};
-use crate::fate::{fates, Fate};
+use crate::ffi::{optimize, Answer, Buffers, Counts, Refusal, Settings};
 use crate::instruction::Instruction;
+use crate::outcome::{outcomes, Outcome};
 use crate::record::{Records, WORDS};
 
 /// What is left of a list, and what became of each of its instructions.
@@ -13,7 +13,7 @@ pub struct Reduced {
     /// How many instructions are left, and how many of each sort were dropped.
     pub counts: Counts,
     /// What became of each instruction of the given list, in order.
-    pub fates: Vec<Fate>,
+    pub outcomes: Vec<Outcome>,
 }
 
 /// Shortens a list, or says why it can't be.
@@ -21,14 +21,14 @@ pub struct Reduced {
 /// Lists of up to 65,536 instructions are taken, with up to 32,768 different locations in their
 /// LoadArgs.
 pub fn reduce(list: &[Instruction], settings: &Settings) -> Result<Reduced, Refusal> {
-    // Of the two doors this is the one for words: the other takes a file of at most 512 records,
-    // and gives neither counts nor the colours and the read set that the fates are told from.
+    // Of the two entries this is the one for words: the other takes a file of at most 512 records,
+    // and gives neither counts nor the colours and the read set that the outcomes follow from.
     let Records { list: words, table } = Records::new(list);
     let mut buffers = Buffers::new(words.len(), table.len());
     match optimize(&words, &table, *settings, buffers.lend()) {
         Answer::Refused(refusal) => Err(refusal),
         Answer::Reduced(counts) => Ok(Reduced {
-            fates: fates(list, settings, &counts, &buffers),
+            outcomes: outcomes(list, settings, &counts, &buffers),
             list: left(buffers.out, counts.records, table),
             counts,
         }),

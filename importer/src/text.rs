@@ -15,7 +15,7 @@
 use std::fmt::{self, Write};
 use std::str::FromStr;
 
-use crate::door::Settings;
+use crate::ffi::Settings;
 use crate::instruction::Instruction;
 
 mod parse;

@@ -21,7 +21,7 @@ fn succeeds(output: Output, what: &str) {
 }
 
 /// Compiles the program in a language and standard, and runs it.
-fn holds(compiler: &str, language: &str, standard: &str) {
+fn compile_and_run(compiler: &str, language: &str, standard: &str) {
     let program = Path::new(env!("CARGO_TARGET_TMPDIR")).join(format!("case_b_{standard}"));
     let compiled = Command::new(compiler)
         .args(["-x", language, &format!("-std={standard}")])
@@ -44,7 +44,7 @@ fn skipped(language: &str) {
 #[test]
 fn case_b_in_c() {
     match compiler(&["cc", "gcc", "clang"]) {
-        Some(compiler) => holds(compiler, "c", "c99"),
+        Some(compiler) => compile_and_run(compiler, "c", "c99"),
         None => skipped("C"),
     }
 }
@@ -52,7 +52,7 @@ fn case_b_in_c() {
 #[test]
 fn case_b_in_cpp() {
     match compiler(&["g++", "c++"]) {
-        Some(compiler) => holds(compiler, "c++", "c++11"),
+        Some(compiler) => compile_and_run(compiler, "c++", "c++11"),
         None => skipped("C++"),
     }
 }

@@ -11,13 +11,13 @@ use rudzaviks::{file, text};
 const SAMPLE: &str = concat!(env!("CARGO_MANIFEST_DIR"), "/samples/volume.txt");
 
 /// What a run of the tool gave.
-struct Ran {
+struct RunOutput {
     status: i32,
     out: Vec<u8>,
     err: String,
 }
 
-impl Ran {
+impl RunOutput {
     fn out(&self) -> &str {
         std::str::from_utf8(&self.out).expect("text")
     }
@@ -31,14 +31,14 @@ impl Ran {
     }
 
     /// It is no failure, and says nothing beside what it gives.
-    fn succeeds(self) -> Ran {
+    fn succeeds(self) -> RunOutput {
         assert_eq!((self.status, self.err.as_str()), (0, ""));
         self
     }
 }
 
 /// Runs the tool with these words, and this on its standard input.
-fn run(words: &[&str], input: &[u8]) -> Ran {
+fn run(words: &[&str], input: &[u8]) -> RunOutput {
     let mut child = Command::new(env!("CARGO_BIN_EXE_rudzaviks"))
         .args(words)
         .stdin(Stdio::piped())
@@ -50,11 +50,11 @@ fn run(words: &[&str], input: &[u8]) -> Ran {
     let _ = child.stdin.take().expect("its input").write_all(input);
     let output = child.wait_with_output().expect("the tool ends");
     let err = String::from_utf8(output.stderr).expect("text");
-    Ran { status: output.status.code().expect("a status"), out: output.stdout, err }
+    RunOutput { status: output.status.code().expect("a status"), out: output.stdout, err }
 }
 
 /// Runs a command on a list that is given as text.
-fn run_on(command: &str, list: &str) -> Ran {
+fn run_on(command: &str, list: &str) -> RunOutput {
     run(&[command, "-"], list.as_bytes())
 }
 
@@ -72,12 +72,12 @@ fn lines_fit(text: &str) {
 
 #[test]
 fn the_sample_is_shown_before_and_after() {
-    let ran = run(&["reduce", SAMPLE], b"").succeeds();
-    lines_fit(ran.out());
+    let output = run(&["reduce", SAMPLE], b"").succeeds();
+    lines_fit(output.out());
     for reason in ["does nothing", "is already in", "onto itself", "nothing kept reads"] {
-        assert!(ran.out().contains(reason), "{reason}");
+        assert!(output.out().contains(reason), "{reason}");
     }
-    let last = ran.out().lines().last();
+    let last = output.out().lines().last();
     let counts = "26 instructions before, 19 after; dropped: 1 nop, 3 loads, 1 move, 2 saves";
     assert_eq!(last, Some(counts));
 }
@@ -88,9 +88,9 @@ fn the_readme_shows_what_the_sample_gives() {
     let readme = readme.expect("the README is there");
     let mut commands = readme.lines().filter_map(|line| line.strip_prefix("    "));
     assert_eq!(commands.next(), Some("./rudzaviks reduce importer/samples/volume.txt"));
-    let ran = run(&["reduce", SAMPLE], b"").succeeds();
+    let output = run(&["reduce", SAMPLE], b"").succeeds();
     let indent = |line: &str| format!("    {line}").trim_end().to_string() + "\n";
-    let shown: String = ran.out().lines().map(indent).collect();
+    let shown: String = output.out().lines().map(indent).collect();
     assert!(readme.contains(&shown), "the README should have:\n{shown}");
 }
 
@@ -133,9 +133,9 @@ fn long_instructions_are_broken() {
          (%12 + %13*im) := (%10 + %11*im) Divide (%10 + %11*im)\n\
          Load Args [{locations}]; complex, true\nStack[4294967294] := (%12 + %13*im)\n"
     );
-    let ran = run_on("reduce", &list).succeeds();
-    lines_fit(ran.out());
-    assert!(ran.out().ends_with("4 instructions before, 4 after; dropped: nothing\n"));
+    let output = run_on("reduce", &list).succeeds();
+    lines_fit(output.out());
+    assert!(output.out().ends_with("4 instructions before, 4 after; dropped: nothing\n"));
 }
 
 #[test]
@@ -143,8 +143,8 @@ fn a_mistake_is_shown_with_its_line_and_column() {
     let list = "settings count_regs=2\n%0 := Mem[0]\n  %1 := %0 Pluss %0 # sum\n";
     let shown = "    3 |   %1 := %0 Pluss %0 # sum\n      |            ^\n";
     for command in ["reduce", "check", "assemble", "disassemble"] {
-        let ran = run_on(command, list);
-        ran.fails(2, &["standard input:3:12: expected one of Plus, ", "found `Pluss`\n", shown]);
+        let output = run_on(command, list);
+        output.fails(2, &["standard input:3:12: expected one of Plus, ", "found `Pluss`\n", shown]);
     }
     let path = place("mistake.txt");
     fs::write(&path, "settings count_regs=2\n%0 = Mem[0]\n").expect("it is written");
@@ -210,8 +210,8 @@ fn refusals_of_every_other_question_are_explained() {
 #[test]
 fn a_list_too_long_for_a_file_is_reduced_all_the_same() {
     let list = format!("settings count_regs=1\n{}%0 := Mem[0]\n", "nop\n".repeat(512));
-    let ran = run_on("reduce", &list).succeeds();
-    assert!(ran.out().ends_with("513 instructions before, 1 after; dropped: 512 nops\n"));
+    let output = run_on("reduce", &list).succeeds();
+    assert!(output.out().ends_with("513 instructions before, 1 after; dropped: 512 nops\n"));
     run_on("check", &list).succeeds();
     run_on("assemble", &list).fails(1, &["question 3", "513 records", "a file holds 512"]);
 }

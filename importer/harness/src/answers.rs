@@ -1,4 +1,4 @@
-//! The words that are owed by the doors: the original's answer, or the refusal of the first
+//! The words that the C entries are to answer: the original's answer, or the refusal of the first
 //! question that is answered no.
 //!
 //! Bits 32 to 55 hold the question's number, 0 for none. With a number, bits 0 to 31 hold the

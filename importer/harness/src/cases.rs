@@ -7,12 +7,12 @@
 
 use crate::damage::{Fault, OF_RECORD};
 use crate::file::{encode, record_count, with_word, MOST, PAIR_COUNT};
-use crate::lists::{any_list, list, List, Taste};
+use crate::lists::{any_list, list, List, Profile};
 use crate::random::Random;
 use crate::record::WORDS;
 use crate::roles::KINDS;
 use crate::settings::{set_flag, Settings};
-use crate::{answers, dozen, limits, run, ten};
+use crate::{answers, limits, run, stored_lists, worked_examples};
 
 const WIDE: Settings =
     Settings { count_regs: 32, args: 0, complex: false, arm: false, compress: false };
@@ -37,7 +37,8 @@ fn spaced(numbers: &[u32]) -> String {
 /// The files, always the same ones.
 pub fn cases() -> Vec<Vec<u8>> {
     let mut random = Random::new(2029);
-    let mut files: Vec<Vec<u8>> = ten::cases().iter().map(|case| encode(&case.list, 1)).collect();
+    let mut files: Vec<Vec<u8>> =
+        worked_examples::cases().iter().map(|case| encode(&case.list, 1)).collect();
     add_bad_forms(&mut random, &mut files);
     add_bad_lists(&mut random, &mut files);
     add_longer(&mut random, &mut files);
@@ -46,7 +47,7 @@ pub fn cases() -> Vec<Vec<u8>> {
 
 /// Files that are none, each refused with 3.
 fn add_bad_forms(random: &mut Random, files: &mut Vec<Vec<u8>>) {
-    let list = list(random, &Taste::plain(3));
+    let list = list(random, &Profile::plain(3));
     let good = encode(&list, 1);
     files.push(Vec::new());
     files.push(good[..good.len() - 1].to_vec());
@@ -69,7 +70,7 @@ fn add_bad_forms(random: &mut Random, files: &mut Vec<Vec<u8>>) {
 fn add_bad_lists(random: &mut Random, files: &mut Vec<Vec<u8>>) {
     for fault in [Fault::CountRegs, Fault::Args].into_iter().chain(OF_RECORD) {
         for start in [0, 10] {
-            let mut list = list(random, &Taste { settings: WIDE, ..Taste::plain(40) });
+            let mut list = list(random, &Profile { settings: WIDE, ..Profile::plain(40) });
             let fits = |at: &usize| fault.put(random, &mut list, *at);
             (start..40).find(fits).expect("a record that the fault fits");
             files.push(encode(&list, 1));
@@ -80,20 +81,20 @@ fn add_bad_lists(random: &mut Random, files: &mut Vec<Vec<u8>>) {
 /// Lists that pass: known ones, random ones, and the longest with the largest table; last that one
 /// with a last record of no kind.
 fn add_longer(random: &mut Random, files: &mut Vec<Vec<u8>>) {
-    let mut lists: Vec<List> = dozen::lists().into_iter().map(|named| named.list).collect();
-    lists.push(limits::tops(WIDE));
+    let mut lists: Vec<List> = stored_lists::lists().into_iter().map(|named| named.list).collect();
+    lists.push(limits::largest_fields(WIDE));
     for _ in 0..12 {
         lists.push(any_list(random, 40));
     }
     for complex in [false, true] {
         let settings = Settings { count_regs: 5, args: 3, complex, ..WIDE };
-        lists.push(list(random, &Taste { settings, pairs: 40, ..Taste::plain(80) }));
+        lists.push(list(random, &Profile { settings, pairs: 40, ..Profile::plain(80) }));
     }
     // many moves, loads and saves over many locations, so that many of them are dropped
     let mut weights = [1; KINDS];
     weights[4..=8].fill(20);
-    let taste = Taste { pairs: MOST, cells: 60, weights, ..Taste::plain(MOST) };
-    let mut longest = list(random, &taste);
+    let profile = Profile { pairs: MOST, cells: 60, weights, ..Profile::plain(MOST) };
+    let mut longest = list(random, &profile);
     lists.push(longest.clone());
     longest.record_mut(MOST - 1)[0] = 21;
     lists.push(longest);
@@ -102,7 +103,7 @@ fn add_longer(random: &mut Random, files: &mut Vec<Vec<u8>>) {
 
 /// Each stored file's place among the crates, and its bytes.
 pub fn stored() -> [(&'static str, Vec<u8>); 4] {
-    let one = encode(&ten::cases()[1].list, 1);
+    let one = encode(&worked_examples::cases()[1].list, 1);
     let many = cases();
     [
         ("reduce/stdout", printed(&one).into_bytes()),

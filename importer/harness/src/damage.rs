@@ -10,7 +10,7 @@ use crate::roles::{words_with, Role};
 pub enum Fault {
     CountRegs,
     Args,
-    RaggedList,
+    PartialRecord,
     LongList,
     OddTable,
     LongTable,
@@ -27,7 +27,7 @@ pub enum Fault {
 use Fault::*;
 
 /// Faults of the list as a whole.
-pub const OF_LIST: [Fault; 6] = [CountRegs, Args, RaggedList, LongList, OddTable, LongTable];
+pub const OF_LIST: [Fault; 6] = [CountRegs, Args, PartialRecord, LongList, OddTable, LongTable];
 
 /// Faults of one record.
 pub const OF_RECORD: [Fault; 8] =
@@ -39,7 +39,7 @@ impl Fault {
         match self {
             CountRegs => 1,
             Args => 2,
-            RaggedList | LongList | OddTable | LongTable => 3,
+            PartialRecord | LongList | OddTable | LongTable => 3,
             Kind => 5,
             Field | UnusedWord | SpanOutside | PairSpace => 6,
             GenTooHigh => 7,
@@ -77,7 +77,7 @@ impl Fault {
         match self {
             CountRegs => list.settings.count_regs = random.pick(&[33, 34, 64, 256, u32::MAX]),
             Args => list.settings.args = random.pick(&[65_536, 65_537, 1 << 31, u32::MAX]),
-            RaggedList => {
+            PartialRecord => {
                 let more = random.between(1, 7) as usize;
                 list.words.resize(list.words.len() + more, 0);
             }
@@ -206,7 +206,7 @@ fn any_fault(random: &mut Random, list: &mut List) {
     let known = list.words.chunks_exact(WORDS).all(|record| record[0] <= 20);
     let records = list.records();
     if records == 0 || !known || random.percent(5) {
-        random.pick(&[CountRegs, Args, RaggedList, OddTable]).put(random, list, 0);
+        random.pick(&[CountRegs, Args, PartialRecord, OddTable]).put(random, list, 0);
         return;
     }
     for _ in 0..20 {

@@ -21,8 +21,8 @@ pub fn lengths(lent: &Lent) -> [usize; 5] {
     lent.each_ref().map(Vec::len)
 }
 
-/// Slices of the given lengths. No two words are equal in the short run, so that one which is put
-/// in a wrong place shows.
+/// Slices of the given lengths. No two words near each other are equal, so that one which is put in
+/// a wrong place is seen.
 pub fn filled(random: &mut Random, lengths: [usize; 5]) -> Lent {
     lengths.map(|length| {
         let (first, step) = (random.word(), random.word() | 1);
@@ -38,7 +38,7 @@ pub fn with_room(random: &mut Random, list: &List) -> Lent {
 }
 
 /// The slices as they were, but each starting with the given words.
-pub fn started(before: &Lent, mut words: Lent) -> Lent {
+pub fn with_prefixes(before: &Lent, mut words: Lent) -> Lent {
     for (slice, words) in before.iter().zip(&mut words) {
         words.extend(&slice[words.len()..]);
     }

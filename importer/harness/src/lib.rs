@@ -1,26 +1,26 @@
-//! What the tests stand on: lists of records, good and damaged, and the answers that are owed for
+//! What the tests need: lists of records, good and damaged, and the answers that are expected for
 //! them by the original and by the questions. Nothing here calls the verified code.
 
 pub mod answers;
 pub mod cases;
 pub mod damage;
-pub mod dozen;
 pub mod file;
 pub mod kinds;
 pub mod lent;
 pub mod limits;
 pub mod lists;
+pub mod panics;
 pub mod questions;
-pub mod quiet;
 pub mod random;
 pub mod record;
 pub mod reduced;
 pub mod roles;
 pub mod run;
 pub mod settings;
-pub mod ten;
+pub mod stored_lists;
 pub mod theorem;
 pub mod vectors;
+pub mod worked_examples;
 
 /// With fewer lists than this, a test could miss a case that it counts.
 const FEWEST: u64 = 20_000;

@@ -1,6 +1,6 @@
 //! Passing lists at the limits.
 
-use crate::lists::{list, List, Taste};
+use crate::lists::{list, List, Profile};
 use crate::random::Random;
 use crate::record::{Record, WORDS};
 use crate::roles::{role, Role, KINDS};
@@ -14,38 +14,38 @@ pub fn lists() -> Vec<(&'static str, List)> {
     let mut random = Random::new(7);
     let wide = Settings { count_regs: 32, ..Settings::default() };
     let far = Settings { args: 65_535, complex: true, ..wide };
-    let long = Taste { settings: wide, records: MOST_RECORDS, ..Taste::plain(0) };
-    let both = Taste { pairs: MOST_PAIRS, ..long.clone() };
-    let ends = Taste { settings: far, extreme: 100, ..Taste::plain(500) };
-    let none = Taste { settings: Settings::default(), ..Taste::plain(500) };
+    let long = Profile { settings: wide, records: MOST_RECORDS, ..Profile::plain(0) };
+    let both = Profile { pairs: MOST_PAIRS, ..long.clone() };
+    let ends = Profile { settings: far, extreme: 100, ..Profile::plain(500) };
+    let none = Profile { settings: Settings::default(), ..Profile::plain(500) };
     vec![
-        ("no records", list(&mut random, &Taste::plain(0))),
+        ("no records", list(&mut random, &Profile::plain(0))),
         ("as many records as may be", list(&mut random, &long)),
         ("as many records and pairs as may be", list(&mut random, &both)),
         ("as many scalar straight-line records", list(&mut random, &long.straight())),
         ("every index, constant and label at an end", list(&mut random, &ends)),
-        ("the largest fixed mark", list(&mut random, &Taste { extreme: 0, ..ends })),
+        ("the largest fixed mark", list(&mut random, &Profile { extreme: 0, ..ends })),
         ("no registers", list(&mut random, &none)),
-        ("every field at its top", tops(wide)),
+        ("every field as large as it may be", largest_fields(wide)),
         ("the whole of the largest table", whole_table(MOST_PAIRS)),
     ]
 }
 
 /// One record of each kind, every field as large as it may be: first with Gen registers, each
 /// written before it is read, then with named ones.
-pub fn tops(settings: Settings) -> List {
+pub fn largest_fields(settings: Settings) -> List {
     let table = vec![2, u32::MAX, 0, u32::MAX];
     let mut words = Vec::new();
-    for top in [settings.count_regs - 1, 259] {
+    for register in [settings.count_regs - 1, 259] {
         for kind in 0..KINDS as u32 {
-            words.extend([9, top, u32::MAX, 0, 0, 0, 0, 0]);
-            words.extend(top_record(kind, top));
+            words.extend([9, register, u32::MAX, 0, 0, 0, 0, 0]);
+            words.extend(largest_record(kind, register));
         }
     }
     List { settings, table, words }
 }
 
-fn top_record(kind: u32, register: u32) -> Record {
+fn largest_record(kind: u32, register: u32) -> Record {
     let mut record = [0; WORDS];
     record[0] = kind;
     for (word, value) in record.iter_mut().enumerate().skip(1) {

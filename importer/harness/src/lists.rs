@@ -33,9 +33,9 @@ impl List {
     }
 }
 
-/// What a random list is to be like.
+/// The parameters of a random list.
 #[derive(Clone, Debug)]
-pub struct Taste {
+pub struct Profile {
     pub settings: Settings,
     pub records: usize,
     pub pairs: usize,
@@ -51,10 +51,10 @@ pub struct Taste {
     pub weights: [u32; KINDS],
 }
 
-impl Taste {
+impl Profile {
     /// All kinds alike, few registers and cells.
-    pub fn plain(records: usize) -> Taste {
-        Taste {
+    pub fn plain(records: usize) -> Profile {
+        Profile {
             settings: Settings { count_regs: 4, ..Settings::default() },
             records,
             pairs: 6,
@@ -66,11 +66,11 @@ impl Taste {
         }
     }
 
-    /// Any taste, with at most the given number of records.
-    pub fn random(random: &mut Random, most_records: u32) -> Taste {
+    /// Any profile, with at most the given number of records.
+    pub fn random(random: &mut Random, most_records: u32) -> Profile {
         let most = if random.percent(80) { most_records.min(24) } else { most_records };
         let pairs = if random.percent(30) { 0 } else { random.index(12) };
-        Taste {
+        Profile {
             settings: random_settings(random),
             records: random.between(0, most) as usize,
             pairs,
@@ -82,8 +82,8 @@ impl Taste {
         }
     }
 
-    /// The same taste, with scalar straight-line kinds alone.
-    pub fn straight(mut self) -> Taste {
+    /// The same profile, with scalar straight-line kinds alone.
+    pub fn straight(mut self) -> Profile {
         for kind in 0..KINDS {
             if !STRAIGHT.contains(&(kind as u32)) {
                 self.weights[kind] = 0;
@@ -127,40 +127,40 @@ fn random_weights(random: &mut Random) -> [u32; KINDS] {
     weights
 }
 
-/// A list to the taste. Every Gen that it reads was written since the last Label or Call.
-pub fn list(random: &mut Random, taste: &Taste) -> List {
-    let mut maker = Maker { random, taste, has_static: 0 };
+/// A list of the profile. Every Gen that it reads was written since the last Label or Call.
+pub fn list(random: &mut Random, profile: &Profile) -> List {
+    let mut generator = Generator { random, profile, has_static: 0 };
     let mut table = Vec::new();
-    for _ in 0..taste.pairs {
-        let (space, index) = maker.cell();
+    for _ in 0..profile.pairs {
+        let (space, index) = generator.cell();
         table.extend([space, index]);
     }
-    let mut words = Vec::with_capacity(taste.records * WORDS);
-    for _ in 0..taste.records {
-        let kind = maker.kind();
-        words.extend(maker.record(kind));
+    let mut words = Vec::with_capacity(profile.records * WORDS);
+    for _ in 0..profile.records {
+        let kind = generator.kind();
+        words.extend(generator.record(kind));
     }
-    List { settings: taste.settings, table, words }
+    List { settings: profile.settings, table, words }
 }
 
-/// A list of any taste, one in four straight.
+/// A list of any profile, one in four straight.
 pub fn any_list(random: &mut Random, most_records: u32) -> List {
-    let taste = Taste::random(random, most_records);
-    let taste = if random.percent(25) { taste.straight() } else { taste };
-    list(random, &taste)
+    let profile = Profile::random(random, most_records);
+    let profile = if random.percent(25) { profile.straight() } else { profile };
+    list(random, &profile)
 }
 
-struct Maker<'a> {
+struct Generator<'a> {
     random: &'a mut Random,
-    taste: &'a Taste,
+    profile: &'a Profile,
     /// One bit for each Gen register that has a static.
     has_static: u32,
 }
 
-impl Maker<'_> {
+impl Generator<'_> {
     fn kind(&mut self) -> u32 {
-        let mut left = self.random.below(self.taste.weights.iter().sum());
-        for (kind, weight) in self.taste.weights.iter().enumerate() {
+        let mut left = self.random.below(self.profile.weights.iter().sum());
+        for (kind, weight) in self.profile.weights.iter().enumerate() {
             if left < *weight {
                 return kind as u32;
             }
@@ -204,7 +204,7 @@ impl Maker<'_> {
     }
 
     fn source(&mut self) -> u32 {
-        if self.has_static == 0 || self.random.percent(self.taste.named) {
+        if self.has_static == 0 || self.random.percent(self.profile.named) {
             return self.named();
         }
         let mut left = self.random.below(self.has_static.count_ones());
@@ -217,8 +217,8 @@ impl Maker<'_> {
     }
 
     fn destination(&mut self) -> u32 {
-        let count_regs = self.taste.settings.count_regs;
-        if count_regs == 0 || self.random.percent(self.taste.named) {
+        let count_regs = self.profile.settings.count_regs;
+        if count_regs == 0 || self.random.percent(self.profile.named) {
             return self.named();
         }
         self.random.below(count_regs)
@@ -226,31 +226,31 @@ impl Maker<'_> {
 
     fn cell(&mut self) -> (u32, u32) {
         let space = self.random.below(3);
-        if self.random.percent(self.taste.extreme) {
+        if self.random.percent(self.profile.extreme) {
             return (space, self.random.pick(&[0, u32::MAX - 2, u32::MAX - 1, u32::MAX]));
         }
         let low = match space {
-            0 => self.taste.settings.fixed_mark().saturating_sub(self.taste.cells / 2),
+            0 => self.profile.settings.fixed_mark().saturating_sub(self.profile.cells / 2),
             _ => 0,
         };
-        (space, low + self.random.below(self.taste.cells))
+        (space, low + self.random.below(self.profile.cells))
     }
 
     fn span(&mut self) -> (u32, u32) {
-        let pairs = self.taste.pairs as u32;
+        let pairs = self.profile.pairs as u32;
         let first = self.random.between(0, pairs);
         (first, self.random.between(0, (pairs - first).min(8)))
     }
 
     fn label(&mut self) -> u32 {
-        if self.random.percent(self.taste.extreme) {
+        if self.random.percent(self.profile.extreme) {
             return self.random.pick(&[0, u32::MAX - 1, u32::MAX]);
         }
-        self.random.below(self.taste.labels)
+        self.random.below(self.profile.labels)
     }
 
     fn any(&mut self) -> u32 {
-        if self.random.percent(self.taste.extreme) {
+        if self.random.percent(self.profile.extreme) {
             return self.random.pick(&[0, u32::MAX - 1, u32::MAX]);
         }
         self.random.below(8)

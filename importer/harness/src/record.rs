@@ -1,9 +1,9 @@
 //! Records of 8 words, to the original's instructions and back.
 //!
 //! A label's name is the number's decimal text. LoadArgs names pairs of a lent table by `first` and
-//! `count`, while the original holds the locations themselves; the way back therefore takes the
-//! spans of the list that was read. The allocator keeps every LoadArgs, in order, so the n-th of
-//! its output has the n-th span.
+//! `count`, while the original holds the locations themselves; encoding therefore takes the spans
+//! of the list that was read. The allocator keeps every LoadArgs, in order, so the n-th of its
+//! output has the n-th span.
 
 use oracle::{ArithOp, BinOp, FusedOp, Instruction, Loc, Reg, UniOp};
 

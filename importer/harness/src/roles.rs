@@ -1,4 +1,4 @@
-//! What each word of a record is for, as the makers of lists see it.
+//! What each word of a record is for, as the generators of lists use it.
 
 #[derive(Clone, Copy, Debug, PartialEq, Eq)]
 pub enum Role {

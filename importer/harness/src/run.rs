@@ -41,7 +41,7 @@ impl Ready {
         encode_list(self.mir.code.iter(), &list.table, &spans(&list.words))
     }
 
-    /// The statics' colours and ends, in order. The original keeps them to itself, but its Debug
+    /// The statics' colours and ends, in order. They are private in the original, but its Debug
     /// text has a line for each: `σ0 := (Static { reg: %1, end: 2 })`.
     fn statics(&self) -> Vec<(u32, u32)> {
         let text = format!("{:?}", self.allocator);
@@ -55,7 +55,7 @@ impl Ready {
     }
 
     /// Which of these Stack cells, all at or above the fixed mark, are in the original's read set.
-    /// It keeps the set to itself, but keeps it for the next list too: of Saves alone, those to
+    /// The set is private there, but is kept for the next list too: of Saves alone, those to
     /// members are left.
     pub fn members_among(&mut self, cells: &[u32]) -> Vec<u32> {
         self.mir.code = MirWriter::new();

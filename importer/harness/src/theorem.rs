@@ -1,11 +1,11 @@
 //! Lists as antt text, and the theorem that says what the original makes of them.
 
-use crate::dozen::Named;
 use crate::kinds::{LEFT, MEM, PARAM, RET, RIGHT, STACK, TEMP};
 use crate::record::WORDS;
 use crate::reduced::Reduced;
 use crate::roles::{role, words_with, Role, KINDS};
 use crate::run;
+use crate::stored_lists::Named;
 
 /// The constructors' names, by kind.
 const NAMES: [&str; KINDS] = [
@@ -68,12 +68,12 @@ fn wrapped(indent: &str, text: &str) -> String {
     let mut lines = String::new();
     let mut line = String::from(indent);
     for (at, word) in text.split(" ∷ ").enumerate() {
-        let joint = if at == 0 { "" } else { " ∷ " };
-        if line.chars().count() + joint.chars().count() + word.chars().count() > WIDTH {
+        let separator = if at == 0 { "" } else { " ∷ " };
+        if line.chars().count() + separator.chars().count() + word.chars().count() > WIDTH {
             lines += &format!("{line}\n");
             line = format!("{indent}∷ {word}");
         } else {
-            line += joint;
+            line += separator;
             line += word;
         }
     }

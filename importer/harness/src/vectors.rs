@@ -1,4 +1,4 @@
-//! Stored answers, for a replay with no Rust at hand.
+//! Stored answers, for a replay without Rust.
 //!
 //! All words are 32 bits, little-endian. Word 0 is the number of cases. A case is: the operation (1
 //! used_registers, 2 populate_labels, 3 optimize); count_regs, args, complex, arm, compress; the
@@ -11,10 +11,10 @@
 use crate::damage::damaged;
 use crate::file::bytes;
 use crate::lent::{room, Lent};
-use crate::lists::{any_list, list, List, Taste};
+use crate::lists::{any_list, list, List, Profile};
 use crate::random::Random;
 use crate::settings::{set_flag, Settings};
-use crate::{answers, dozen, limits, ten};
+use crate::{answers, limits, stored_lists, worked_examples};
 
 /// The replay's buffers hold this many records and pairs.
 pub const MOST_RECORDS: usize = 512;
@@ -66,8 +66,8 @@ impl Case {
         words.extend([answer as u32, (answer >> 32) as u32]);
         if let Optimize(lengths) = self.operation {
             words.extend(lengths.map(|length| length as u32));
-            let starts = answers::optimize(&self.list, lengths).1;
-            add_parts(&mut words, &starts.each_ref().map(Vec::as_slice));
+            let prefixes = answers::optimize(&self.list, lengths).1;
+            add_parts(&mut words, &prefixes.each_ref().map(Vec::as_slice));
         }
         words
     }
@@ -86,12 +86,12 @@ pub fn filled(lengths: [usize; 5]) -> Lent {
     lengths.map(|length| vec![FILL; length])
 }
 
-struct Maker {
+struct Builder {
     random: Random,
     cases: Vec<Case>,
 }
 
-impl Maker {
+impl Builder {
     fn add(&mut self, list: List, operation: Operation) {
         let flag = set_flag(&mut self.random);
         self.cases.push(Case { operation, list, flag });
@@ -130,52 +130,56 @@ impl Maker {
 
 /// The cases, always the same ones.
 pub fn cases() -> Vec<Case> {
-    let mut maker = Maker { random: Random::new(2028), cases: Vec::new() };
-    for case in ten::cases() {
-        maker.add_both(case.list, 7);
+    let mut builder = Builder { random: Random::new(2028), cases: Vec::new() };
+    for case in worked_examples::cases() {
+        builder.add_both(case.list, 7);
     }
-    maker.add_both(limits::tops(Settings { count_regs: 32, ..Settings::default() }), u32::MAX);
+    builder.add_both(
+        limits::largest_fields(Settings { count_regs: 32, ..Settings::default() }),
+        u32::MAX,
+    );
     for _ in 0..125 {
-        let list = any_list(&mut maker.random, 16);
-        maker.add_any(list.clone());
-        let copy = damaged(&mut maker.random, &list);
-        maker.add_any(copy);
-        let copy = damaged(&mut maker.random, &list);
-        maker.add_any(copy);
+        let list = any_list(&mut builder.random, 16);
+        builder.add_any(list.clone());
+        let copy = damaged(&mut builder.random, &list);
+        builder.add_any(copy);
+        let copy = damaged(&mut builder.random, &list);
+        builder.add_any(copy);
     }
-    add_long(&mut maker);
-    add_reduced(&mut maker);
-    maker.cases
+    add_long(&mut builder);
+    add_reduced(&mut builder);
+    builder.cases
 }
 
 /// The longest list and table that fit; then the same with a last record of no kind.
-fn add_long(maker: &mut Maker) {
-    let taste = Taste { pairs: MOST_PAIRS, labels: 20, ..Taste::plain(MOST_RECORDS) };
-    let mut long = list(&mut maker.random, &taste);
+fn add_long(builder: &mut Builder) {
+    let profile = Profile { pairs: MOST_PAIRS, labels: 20, ..Profile::plain(MOST_RECORDS) };
+    let mut long = list(&mut builder.random, &profile);
     let label = long.labels()[0];
-    maker.add_both(long.clone(), label);
+    builder.add_both(long.clone(), label);
     long.record_mut(MOST_RECORDS - 1)[0] = 21;
-    maker.add(long, UsedRegisters);
+    builder.add(long, UsedRegisters);
 }
 
 /// Lists to be reduced: known ones, random ones with a damaged copy, each slice too short, the
 /// longest list that fits.
-fn add_reduced(maker: &mut Maker) {
-    ten::cases().into_iter().for_each(|case| maker.add_optimize(case.list));
-    dozen::lists().into_iter().for_each(|named| maker.add_optimize(named.list));
-    maker.add_optimize(limits::tops(Settings { count_regs: 32, ..Settings::default() }));
+fn add_reduced(builder: &mut Builder) {
+    worked_examples::cases().into_iter().for_each(|case| builder.add_optimize(case.list));
+    stored_lists::lists().into_iter().for_each(|named| builder.add_optimize(named.list));
+    builder
+        .add_optimize(limits::largest_fields(Settings { count_regs: 32, ..Settings::default() }));
     for _ in 0..45 {
-        let list = any_list(&mut maker.random, 16);
-        maker.add_optimize(list.clone());
-        let copy = damaged(&mut maker.random, &list);
-        maker.add_optimize(copy);
+        let list = any_list(&mut builder.random, 16);
+        builder.add_optimize(list.clone());
+        let copy = damaged(&mut builder.random, &list);
+        builder.add_optimize(copy);
     }
     for slice in 0..5 {
-        let list = list(&mut maker.random, &Taste::plain(3));
-        maker.add_too_short(list, slice);
+        let list = list(&mut builder.random, &Profile::plain(3));
+        builder.add_too_short(list, slice);
     }
-    let long = list(&mut maker.random, &Taste::plain(MOST_RECORDS));
-    maker.add_optimize(long);
+    let long = list(&mut builder.random, &Profile::plain(MOST_RECORDS));
+    builder.add_optimize(long);
 }
 
 /// The whole file.

@@ -15,8 +15,8 @@ const CASE_B: &str = "\
 dropped 0 1 0 1
 ";
 
-/// What the table of ten says, in the program's words.
-const TEN: [&str; 10] = [
+/// What the program prints for the worked examples.
+const WORKED_EXAMPLES: [&str; 10] = [
     "dropped 0 0 0 0\n",
     CASE_B,
     "9 0 5 0 0 0 0 0\n6 0 1 3 0 0 0 0\n6 0 0 15 0 0 0 0\ndropped 0 1 0 0\n",
@@ -36,8 +36,8 @@ fn bytes_of(place: &str) -> Vec<u8> {
 }
 
 #[test]
-fn the_first_ten_by_hand() {
-    for (file, text) in cases().iter().zip(TEN) {
+fn the_worked_examples_come_first() {
+    for (file, text) in cases().iter().zip(WORKED_EXAMPLES) {
         assert_eq!(printed(file), text);
     }
     assert_eq!(bytes_of("reduce/stdin"), cases()[1]);
@@ -57,8 +57,8 @@ fn the_files_hold_the_cases() {
     for (at, case) in cases().iter().enumerate() {
         let length = word(&mut rest);
         assert_eq!(rest.split_off(..length).expect("a file"), case);
-        let owed = format!("case {}\n{}", at + 1, printed(case));
-        assert_eq!(lines.split_off(..owed.len()), Some(owed.as_bytes()));
+        let expected = format!("case {}\n{}", at + 1, printed(case));
+        assert_eq!(lines.split_off(..expected.len()), Some(expected.as_bytes()));
     }
     assert!(rest.is_empty() && lines.is_empty());
     assert!(input.len() < 120_000, "{} bytes", input.len());

@@ -10,7 +10,7 @@ use harness::lists::{any_list, List};
 use harness::random::Random;
 use harness::record::WORDS;
 use harness::settings::{set_flag, Settings};
-use harness::ten;
+use harness::worked_examples;
 
 /// Case B as a file, written out.
 fn b() -> Vec<u8> {
@@ -24,7 +24,7 @@ fn b() -> Vec<u8> {
 fn case_b_written_out() {
     assert_eq!(words(&[1, 2, 3, 4, 255, 0, 0, 0]), Some(vec![67_305_985, 255]));
     assert_eq!(words(&[1, 2, 3]), None);
-    assert_eq!(encode(&ten::cases()[1].list, 1), b());
+    assert_eq!(encode(&worked_examples::cases()[1].list, 1), b());
     let left = [load_const(0, 5), save(0, MEM, 3)].concat();
     let out = bytes(&[&[2], &left[..]].concat());
     assert_eq!(output(&left), out);
@@ -48,7 +48,7 @@ fn a_file_gives_its_list_back() {
     }
 }
 
-/// A ragged list or table makes a file too long, so no damage is lost.
+/// A list or table whose last entry is not whole makes a file too long, so no damage is lost.
 #[test]
 fn a_damaged_list_is_not_mended() {
     let mut random = Random::new(52);

@@ -1,6 +1,6 @@
-//! The makers of lists make what they say.
+//! The generators of lists make what they say.
 
-use harness::lists::{any_list, list, Taste};
+use harness::lists::{any_list, list, Profile};
 use harness::questions::refusal;
 use harness::random::Random;
 use harness::record::WORDS;
@@ -51,8 +51,8 @@ fn every_kind_and_register_count_comes_up() {
 fn straight_lists_are_straight() {
     let mut random = Random::new(13);
     for _ in 0..2_000 {
-        let taste = Taste::random(&mut random, 80).straight();
-        let list = list(&mut random, &taste);
+        let profile = Profile::random(&mut random, 80).straight();
+        let list = list(&mut random, &profile);
         let straight = |record: &[u32]| STRAIGHT.contains(&record[0]);
         assert!(list.words.chunks_exact(WORDS).all(straight), "{list:?}");
     }
@@ -60,14 +60,14 @@ fn straight_lists_are_straight() {
 
 /// Locations collide: the original finds something to drop in many of the lists, and keeps much.
 #[test]
-fn lists_give_the_allocator_work() {
+fn many_lists_have_something_to_drop() {
     let mut random = Random::new(14);
     let (mut before, mut after) = (0, 0);
     for _ in 0..2_000 {
-        let mut taste = Taste::random(&mut random, 80);
-        taste.weights[0] = 0;
-        taste.weights[5] += 1;
-        let list = list(&mut random, &taste);
+        let mut profile = Profile::random(&mut random, 80);
+        profile.weights[0] = 0;
+        profile.weights[5] += 1;
+        let list = list(&mut random, &profile);
         before += list.words.len();
         after += run::optimize(&list).len();
     }

@@ -1,9 +1,9 @@
 //! The statement of the questions, against faults put in by hand and against the original.
 
 use harness::damage::{damaged, Fault, OF_LIST, OF_RECORD};
-use harness::lists::{any_list, list, List, Taste};
+use harness::lists::{any_list, list, List, Profile};
+use harness::panics::caught;
 use harness::questions::{refusal, refusal_beside, Refusal};
-use harness::quiet::caught;
 use harness::random::Random;
 use harness::settings::Settings;
 use harness::{how_many, run};
@@ -19,7 +19,7 @@ fn beside(list: &List) -> Option<Refusal> {
 fn some_list(random: &mut Random, records: usize) -> List {
     let count_regs = random.between(1, 31);
     let settings = Settings { count_regs, ..Settings::default() };
-    list(random, &Taste { settings, ..Taste::plain(records) })
+    list(random, &Profile { settings, ..Profile::plain(records) })
 }
 
 /// What the operations beside the passes say of a fault alone.
@@ -145,12 +145,12 @@ fn overflow_is_checked() -> bool {
 /// The original panics at questions 7 and 9, at 8 in a build with overflow checks, and nowhere
 /// else. At 9 its message has the index.
 fn panic_agrees(list: &List, no: Option<Refusal>) {
-    let outcome = caught(|| run::optimize(list));
+    let result = caught(|| run::optimize(list));
     match no {
-        None => assert!(outcome.is_ok(), "{list:?}"),
-        Some((7, _)) => assert!(outcome.is_err(), "{list:?}"),
+        None => assert!(result.is_ok(), "{list:?}"),
+        Some((7, _)) => assert!(result.is_err(), "{list:?}"),
         Some((9, at)) => {
-            let message = outcome.expect_err("a panic");
+            let message = result.expect_err("a panic");
             assert!(message.ends_with(&format!("not found (line {at})")), "{message} {list:?}");
         }
         Some((8, at)) => {
@@ -158,7 +158,7 @@ fn panic_agrees(list: &List, no: Option<Refusal>) {
             rest.record_mut(at)[4] = 0;
             let panics = overflow_is_checked() && partner_is_asked_for(list, at);
             if panics || whole(&rest).is_none() {
-                assert_eq!(outcome.is_err(), panics, "{list:?}");
+                assert_eq!(result.is_err(), panics, "{list:?}");
             }
         }
         Some(no) => panic!("{no:?} is no question of the original's: {list:?}"),

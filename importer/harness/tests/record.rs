@@ -1,15 +1,15 @@
 //! Records to the original's instructions and back.
 
 use harness::limits;
-use harness::lists::{list, List, Taste};
+use harness::lists::{list, List, Profile};
+use harness::panics::caught;
 use harness::questions::refusal_beside;
-use harness::quiet::caught;
 use harness::random::Random;
 use harness::record::{decode, decode_list, encode, encode_list, spans};
 use harness::roles::KINDS;
 use harness::settings::Settings;
 
-fn there_and_back(list: &List) -> Vec<u32> {
+fn round_trip(list: &List) -> Vec<u32> {
     let code = decode_list(&list.words, &list.table).expect("each record has a meaning");
     encode_list(code, &list.table, &spans(&list.words))
 }
@@ -19,11 +19,11 @@ fn every_kind_comes_back() {
     let mut random = Random::new(1);
     for kind in 0..KINDS {
         for _ in 0..200 {
-            let mut taste = Taste::random(&mut random, 40);
-            taste.weights = [0; KINDS];
-            taste.weights[kind] = 1;
-            let list = list(&mut random, &taste);
-            assert_eq!(there_and_back(&list), list.words);
+            let mut profile = Profile::random(&mut random, 40);
+            profile.weights = [0; KINDS];
+            profile.weights[kind] = 1;
+            let list = list(&mut random, &profile);
+            assert_eq!(round_trip(&list), list.words);
         }
     }
 }
@@ -53,7 +53,7 @@ fn every_register_comes_back() {
 #[test]
 fn lists_at_the_limits_come_back() {
     for (name, list) in limits::lists() {
-        assert!(there_and_back(&list) == list.words, "{name}");
+        assert!(round_trip(&list) == list.words, "{name}");
     }
 }
 

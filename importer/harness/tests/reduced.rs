@@ -42,8 +42,8 @@ fn statics_and_counts() {
     for _ in 0..how_many(100_000) {
         let list = any_list(&mut random, 80);
         let reduced = reduced(&list);
-        let owed = ends(&list);
-        assert!(reduced.statics.iter().map(|(_, end)| *end).eq(owed), "{list:?}");
+        let expected = ends(&list);
+        assert!(reduced.statics.iter().map(|(_, end)| *end).eq(expected), "{list:?}");
         let colours = list.settings.count_regs;
         assert!(reduced.statics.iter().all(|(colour, _)| *colour < colours), "{list:?}");
         let [left, _, _, dropped @ ..] = reduced.counts();
@@ -94,8 +94,8 @@ fn members_by_hand() {
     ];
     let list = List { settings, table, words: records.concat() };
     let reduced = reduced(&list);
-    let owed = [(PARAM, 3), (STACK, 9), (MEM, 7), (PARAM, 0), (PARAM, 2)];
-    assert_eq!(reduced.members, owed);
+    let expected = [(PARAM, 3), (STACK, 9), (MEM, 7), (PARAM, 0), (PARAM, 2)];
+    assert_eq!(reduced.members, expected);
     assert_eq!(reduced.statics, [(0, 1), (0, 2), (1, 3), (2, 5), (1, 5)]);
     assert_eq!(reduced.counts(), [5, 5, 5, 0, 1, 0, 0]);
 }

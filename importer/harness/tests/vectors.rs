@@ -78,8 +78,8 @@ impl Reader {
         assert_eq!(u64::from(self.word()) << 32 | low, case.answer());
         if let Operation::Optimize(lengths) = case.operation {
             assert_eq!([(); 5].map(|()| self.word() as usize), lengths);
-            let starts = [(); 5].map(|()| self.part());
-            assert_eq!(starts, answers::optimize(&case.list, lengths).1);
+            let prefixes = [(); 5].map(|()| self.part());
+            assert_eq!(prefixes, answers::optimize(&case.list, lengths).1);
         }
     }
 }

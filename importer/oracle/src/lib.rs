@@ -1,5 +1,5 @@
-//! The original: symjit's `rust/allocator.rs`, unchanged, with the parts of its neighbours that it
-//! leans on, and `get_dst`, `used_registers` and `populate_labels` of `rust/mir.rs`.
+//! The original: symjit's `rust/allocator.rs`, unchanged, with the parts of other files that it
+//! depends on, and `get_dst`, `used_registers` and `populate_labels` of `rust/mir.rs`.
 //! Repository siravan/symjit at ee8b609e48, MIT licence, see NOTICE.
 
 pub mod symjit;

@@ -4,7 +4,7 @@ use std::fmt::Display;
 
 use super::tokens::{Result, Tokens};
 use super::Parsed;
-use crate::door::Settings;
+use crate::ffi::Settings;
 use crate::instruction::{ArithOp, BinOp, FusedOp, Instruction, Loc, Reg, UniOp};
 
 pub fn list(text: &str) -> Result<Parsed> {

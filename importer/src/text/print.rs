@@ -2,7 +2,7 @@
 
 use std::fmt::{Display, Formatter, Result};
 
-use crate::door::Settings;
+use crate::ffi::Settings;
 use crate::instruction::{FusedOp, Instruction, Loc, Reg};
 
 impl Display for Reg {

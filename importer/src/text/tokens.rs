@@ -119,7 +119,7 @@ mod tests {
     }
 
     #[test]
-    fn a_line_falls_into_tokens() {
+    fn a_line_is_split_into_tokens() {
         assert_eq!(texts(""), []);
         assert_eq!(texts("  # nop"), []);
         let load = [("%0", 2), (":=", 5), ("Mem", 8), ("[", 11), ("3", 12), ("]", 13)];

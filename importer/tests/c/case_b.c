@@ -1,4 +1,4 @@
-/* A list through every door, by the header alone: LoadConst g0,5; Save g0,Mem 3; Load g0,Mem 3; Save g0,Stack 16. */
+/* A list for every C entry, by the header alone: LoadConst g0,5; Save g0,Mem 3; Load g0,Mem 3; Save g0,Stack 16. */
 #include "rudzaviks.h"
 
 #include <stdio.h>
@@ -64,7 +64,7 @@ static void check_beside(void)
 
 static void check_optimize(void)
 {
-    static const uint32_t owed[7] = {LEFT, 2, 0, 0, 1, 0, 1};
+    static const uint32_t expected[7] = {LEFT, 2, 0, 0, 1, 0, 1};
     uint32_t out[WORDS], colours[2 * RECORDS], ends[2 * RECORDS], set[4 * RECORDS], counts[7];
     uint64_t word = rudzaviks_optimize(
         list, WORDS, table, 0, 1, 0, 0, 0, 0,
@@ -72,7 +72,7 @@ static void check_optimize(void)
     check(word == LEFT, "optimize: answer");
     check(memcmp(out, list, 8 * LEFT * sizeof out[0]) == 0, "optimize: the first two records");
     check(colours[0] == 0 && colours[1] == 0 && ends[0] == 1 && ends[1] == 3, "optimize: statics");
-    check(memcmp(counts, owed, sizeof owed) == 0, "optimize: counts");
+    check(memcmp(counts, expected, sizeof expected) == 0, "optimize: counts");
     word = rudzaviks_optimize(
         list, WORDS, table, 0, 1, 0, 0, 0, 0,
         out, WORDS, colours, 2 * RECORDS, ends, 2 * RECORDS, set, 4 * RECORDS - 1, counts, 7);
@@ -81,7 +81,7 @@ static void check_optimize(void)
 
 static void check_reduce(void)
 {
-    uint8_t file[4 * (7 + WORDS)], out[4 + 4 * WORDS + 3], owed[4 + 4 * 8 * LEFT];
+    uint8_t file[4 * (7 + WORDS)], out[4 + 4 * WORDS + 3], expected[4 + 4 * 8 * LEFT];
     const size_t room = 4 + 4 * WORDS;
     size_t at;
     memset(file, 0, sizeof file);
@@ -90,15 +90,15 @@ static void check_reduce(void)
     for (at = 0; at < WORDS; at++) {
         put_word(file + 28 + 4 * at, list[at]);
     }
-    put_word(owed, LEFT);
-    memcpy(owed + 4, file + 28, sizeof owed - 4);
+    put_word(expected, LEFT);
+    memcpy(expected + 4, file + 28, sizeof expected - 4);
     memset(out, 165, sizeof out);
     check(rudzaviks_reduce(file, sizeof file - 1, out, room) == refused(3, 0), "reduce: file too short");
     check(rudzaviks_reduce(file, sizeof file, out, room - 1) == refused(4, 0), "reduce: output too short");
     check(untouched(out, 0, sizeof out), "reduce: a refusal leaves all bytes");
     check(rudzaviks_reduce(file, sizeof file, out, sizeof out) == LEFT, "reduce: answer");
-    check(memcmp(out, owed, sizeof owed) == 0, "reduce: the first two records");
-    check(untouched(out, sizeof owed, sizeof out), "reduce: other bytes as they were");
+    check(memcmp(out, expected, sizeof expected) == 0, "reduce: the first two records");
+    check(untouched(out, sizeof expected, sizeof out), "reduce: other bytes as they were");
 }
 
 int main(void)

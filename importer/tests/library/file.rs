@@ -1,4 +1,4 @@
-//! Lists as files: they come back, and the door for files answers as that for words does.
+//! Lists as files: they come back, and the entry for files answers as that for words does.
 
 use crate::support::{each_list, instructions, records, settings};
 use harness::how_many;
@@ -36,7 +36,7 @@ fn has_pair(list: &List, pair: &[u32]) -> bool {
 }
 
 #[test]
-fn both_doors_leave_the_same() {
+fn both_entries_leave_the_same() {
     each_list(83, how_many(20_000), 300, |list| {
         let bytes = file::write(&records(list), &settings(list)).expect("a list that fits");
         let left = file::reduce(&bytes).expect("a list that passes");

@@ -1,8 +1,9 @@
-//! The library over the doors: text, files, and reduced lists with the reasons of what was dropped.
+//! The library over the C entries: text, files, and reduced lists with the reasons of what was
+//! dropped.
 
-mod fates;
 mod file;
 mod machine;
+mod outcomes;
 mod reduce;
 mod support;
 mod text;

@@ -2,26 +2,26 @@
 
 use crate::support::{each_list, instructions, records, settings};
 use harness::how_many;
-use harness::lists::{list, Taste};
+use harness::lists::{list, Profile};
 use harness::questions::refusal;
 use harness::random::Random;
 use harness::run;
 use harness::settings::Settings;
-use harness::ten::{cases, Outcome};
+use harness::worked_examples::{cases, Expected};
 use rudzaviks::mir::{load_args, nop};
 use rudzaviks::record::Records;
 use rudzaviks::{reduce, Loc, Refusal};
 
 #[test]
-fn the_table_of_ten() {
+fn the_worked_examples() {
     for case in cases() {
         let answer = reduce(&instructions(&case.list), &settings(&case.list));
-        match case.outcome {
-            Outcome::Left(left) => {
+        match case.expected {
+            Expected::Left(left) => {
                 let list = answer.expect(case.name).list;
                 assert_eq!(Records::new(&list).list, left.concat(), "{}", case.name);
             }
-            Outcome::Refused(number, index) => {
+            Expected::Refused(number, index) => {
                 let refusal = Refusal { number, index: index as u32 };
                 assert_eq!(answer, Err(refusal), "{}", case.name);
             }
@@ -33,15 +33,15 @@ fn the_table_of_ten() {
 fn lists_are_reduced_as_by_the_original() {
     each_list(91, how_many(20_000), 700, |list| {
         let reduced = reduce(&instructions(list), &settings(list)).expect("a list that passes");
-        let owed = run::reduced(list);
+        let expected = run::reduced(list);
         let counts = reduced.counts;
-        let [records, statics, members, nops, loads, moves, saves] = owed.counts();
+        let [records, statics, members, nops, loads, moves, saves] = expected.counts();
         assert_eq!([counts.records, counts.statics, counts.members], [records, statics, members]);
         assert_eq!(
             [counts.nops, counts.loads, counts.moves, counts.saves],
             [nops, loads, moves, saves]
         );
-        let left = Records { list: owed.words, table: list.table.clone() };
+        let left = Records { list: expected.words, table: list.table.clone() };
         assert_eq!(Ok(reduced.list), left.instructions());
     });
 }
@@ -51,14 +51,14 @@ fn lists_for_fewer_registers_are_refused() {
     let mut random = Random::new(92);
     let mut refused = 0;
     for _ in 0..2_000 {
-        let good = list(&mut random, &Taste::plain(20));
+        let good = list(&mut random, &Profile::plain(20));
         let fewer = Settings { count_regs: random.below(4), ..good.settings };
         let less = harness::lists::List { settings: fewer, ..good };
         let answer = reduce(&instructions(&less), &settings(&less));
-        let owed = refusal(&fewer, &less.words, &less.table, true);
-        let owed = owed.map(|(number, index)| Refusal { number, index: index as u32 });
-        refused += u32::from(owed.is_some());
-        assert_eq!(answer.err(), owed);
+        let expected = refusal(&fewer, &less.words, &less.table, true);
+        let expected = expected.map(|(number, index)| Refusal { number, index: index as u32 });
+        refused += u32::from(expected.is_some());
+        assert_eq!(answer.err(), expected);
     }
     assert!(refused > 1_000, "{refused}");
 }
@@ -66,7 +66,7 @@ fn lists_for_fewer_registers_are_refused() {
 #[test]
 fn the_longest_lists_are_taken() {
     let mut random = Random::new(93);
-    let longest = list(&mut random, &Taste::plain(65_536));
+    let longest = list(&mut random, &Profile::plain(65_536));
     let mut code = instructions(&longest);
     let reduced = reduce(&code, &settings(&longest)).expect("as many as may be");
     let left = run::optimize(&longest);

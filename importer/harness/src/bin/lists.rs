@@ -1,7 +1,7 @@
-//! Prints the dozen lists as antt text, with what the original makes of each.
+//! Prints the stored lists as antt text, with what the original makes of each.
 
-use harness::{dozen, theorem};
+use harness::{stored_lists, theorem};
 
 fn main() {
-    print!("{}", theorem::text(&dozen::lists()));
+    print!("{}", theorem::text(&stored_lists::lists()));
 }

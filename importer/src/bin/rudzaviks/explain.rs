@@ -1,4 +1,4 @@
-//! What a refusal means for the list at hand.
+//! What a refusal means for the given list.
 
 use rudzaviks::file::MOST;
 use rudzaviks::{Instruction, Refusal, Reg};
@@ -17,7 +17,7 @@ pub fn refused(input: &Input, refusal: Refusal) -> Failure {
     let ins = input.records.instruction(index);
     let (at_fault, detail) = match (&ins, refusal.number) {
         (Err(bad), _) => (None, bad.to_string()),
-        (Ok(ins), 7) => beyond(input, ins),
+        (Ok(ins), 7) => out_of_range(input, ins),
         (Ok(ins), 9) => without_value(input, ins, index),
         _ => (None, "a complex value needs this cell and the next".to_string()),
     };
@@ -61,7 +61,7 @@ fn registers(ins: &Instruction) -> impl Iterator<Item = AtFault> {
 }
 
 /// Question 7.
-fn beyond(input: &Input, ins: &Instruction) -> (Option<AtFault>, String) {
+fn out_of_range(input: &Input, ins: &Instruction) -> (Option<AtFault>, String) {
     let count = input.settings.count_regs;
     let at_fault = registers(ins)
         .find(|(reg, _)| matches!(reg, Reg::Gen(number) if u32::from(*number) >= count));

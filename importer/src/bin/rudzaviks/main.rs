@@ -35,12 +35,12 @@ fn run(words: &[OsString]) -> Result<(), Failure> {
         Request::Help(text) => output::print(&text),
         Request::Run(arguments) => {
             let input = Input::read(&arguments.file)?;
-            obey(&arguments, &input)
+            execute(&arguments, &input)
         }
     }
 }
 
-fn obey(arguments: &Arguments, input: &Input) -> Result<(), Failure> {
+fn execute(arguments: &Arguments, input: &Input) -> Result<(), Failure> {
     match arguments.command {
         Command::Reduce => {
             let reduced = reduced(input)?;
@@ -71,13 +71,13 @@ fn instructions(input: &Input) -> Result<Vec<Instruction>, Failure> {
 }
 
 fn reduced(input: &Input) -> Result<Reduced, Failure> {
-    through_doors(input).map_err(|refusal| explain::refused(input, refusal))
+    by_both_entries(input).map_err(|refusal| explain::refused(input, refusal))
 }
 
-/// What is left of the list. One that fits a file goes through the door for files, as it would from
-/// a C program; that door also refuses records that are no instructions. The door for words then
+/// What is left of the list. One that fits a file goes to the entry for files, as it would from a C
+/// program; that entry also refuses records that are no instructions. The entry for words then
 /// tells what became of each instruction.
-fn through_doors(input: &Input) -> Result<Reduced, Refusal> {
+fn by_both_entries(input: &Input) -> Result<Reduced, Refusal> {
     let left = match file::write(&input.records, &input.settings) {
         Ok(file) => Some(file::reduce(&file)?),
         Err(_) => None,
@@ -86,7 +86,7 @@ fn through_doors(input: &Input) -> Result<Reduced, Refusal> {
     let reduced = rudzaviks::reduce(&list, &input.settings)?;
     if let Some(list) = left {
         let left = Records { list, table: input.records.table.clone() };
-        assert_eq!(left.instructions().as_ref(), Ok(&reduced.list), "both doors answer alike");
+        assert_eq!(left.instructions().as_ref(), Ok(&reduced.list), "both entries answer alike");
     }
     Ok(reduced)
 }

@@ -1,6 +1,6 @@
 //! A list before and after, side by side.
 
-use rudzaviks::{Counts, Fate, Reduced};
+use rudzaviks::{Counts, Outcome, Reduced};
 
 use crate::input::Input;
 
@@ -23,25 +23,25 @@ pub fn show(input: &Input, reduced: &Reduced) -> String {
         mark: ' ',
         after: "after".to_string(),
     };
-    let fates = reduced.fates.iter().enumerate();
-    let rows = fates.map(|(index, fate)| row(input, reduced, index, *fate));
+    let outcomes = reduced.outcomes.iter().enumerate();
+    let rows = outcomes.map(|(index, outcome)| row(input, reduced, index, *outcome));
     let rows: Vec<Row> = std::iter::once(heading).chain(rows).collect();
     let settings = input.settings;
     let mark = settings.fixed_mark();
     format!(
         "{settings}, fixed mark {mark}\n\n{}\n{}",
         columns(&rows),
-        summary(&reduced.counts, reduced.fates.len())
+        summary(&reduced.counts, reduced.outcomes.len())
     )
 }
 
-fn row(input: &Input, reduced: &Reduced, index: usize, fate: Fate) -> Row {
+fn row(input: &Input, reduced: &Reduced, index: usize, outcome: Outcome) -> Row {
     let ins = input.records.instruction(index).expect("a list that was reduced has a meaning");
     let before = ins.to_string();
-    let (mark, after) = match fate {
-        Fate::Dropped(_) => ('<', fate.to_string()),
-        Fate::Kept(at) if reduced.list[at] == ins => (' ', before.clone()),
-        Fate::Kept(at) => ('|', reduced.list[at].to_string()),
+    let (mark, after) = match outcome {
+        Outcome::Dropped(_) => ('<', outcome.to_string()),
+        Outcome::Kept(at) if reduced.list[at] == ins => (' ', before.clone()),
+        Outcome::Kept(at) => ('|', reduced.list[at].to_string()),
     };
     Row { number: input.number(index).to_string(), before, mark, after }
 }
@@ -67,7 +67,7 @@ fn columns(rows: &[Row]) -> String {
     text
 }
 
-/// The text in lines of a width, broken at spaces; those after the first stand in by two.
+/// The text in lines of a width, broken at spaces; those after the first are indented by two.
 fn wrap(text: &str, width: usize) -> Vec<String> {
     let mut lines = vec![String::new()];
     for word in text.split(' ') {

@@ -1,8 +1,0 @@
-//! Reducing through the door: the answer, the five lent slices to their last word, and what lies
-//! around them.
-
-mod exhaustive;
-mod known;
-mod random;
-mod refusals;
-pub mod support;

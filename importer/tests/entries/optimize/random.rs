@@ -1,0 +1,109 @@
+//! Random lists, reduced through the C entry and by the original.
+
+use super::support::{agree_with_room, passes};
+use crate::arbitrary::arbitrary_list;
+use harness::damage::damaged;
+use harness::lists::{any_list, list, Profile};
+use harness::random::Random;
+use harness::settings::Settings;
+use harness::{how_many, limits, run};
+use rudzaviks::ffi::{self, optimize, Answer, Buffers, Counts};
+
+fn passing(seed: u64, lists: u64) {
+    let mut random = Random::new(seed);
+    let mut times = [0u64; 8];
+    for _ in 0..lists {
+        let list = any_list(&mut random, 200);
+        let Counts { statics, members, nops, loads, moves, saves, .. } = passes(&mut random, &list);
+        let many = u32::from(members > 20);
+        let complex = u32::from(list.settings.complex);
+        for (times, seen) in
+            times.iter_mut().zip([statics, members, nops, loads, moves, saves, many, complex])
+        {
+            *times += u64::from(seen > 0);
+        }
+    }
+    assert!(times.iter().all(|times| *times > lists / 100), "{times:?}");
+}
+
+#[test]
+fn passing_lists() {
+    passing(501, how_many(1_000_000) / 2);
+}
+
+#[test]
+fn more_passing_lists() {
+    passing(502, how_many(1_000_000) / 2);
+}
+
+#[test]
+fn damaged_copies() {
+    let mut random = Random::new(503);
+    let lists = how_many(200_000);
+    let mut times = [0u64; 10];
+    for _ in 0..lists {
+        let list = any_list(&mut random, 80);
+        let list = damaged(&mut random, &list);
+        let number = match agree_with_room(&mut random, &list) {
+            Answer::Reduced(_) => 0,
+            Answer::Refused(refusal) => refusal.number as usize,
+        };
+        times[number] += 1;
+    }
+    for number in [0, 1, 2, 3, 5, 6, 7, 8, 9] {
+        assert!(times[number] > lists / 200, "{times:?}");
+    }
+}
+
+#[test]
+fn any_words() {
+    let mut random = Random::new(504);
+    for _ in 0..how_many(200_000) {
+        let list = arbitrary_list(&mut random);
+        agree_with_room(&mut random, &list);
+    }
+}
+
+#[test]
+fn longer_lists() {
+    let mut random = Random::new(505);
+    for _ in 0..how_many(200_000) / 1_000 {
+        let list = any_list(&mut random, 5_000);
+        passes(&mut random, &list);
+        let list = damaged(&mut random, &list);
+        agree_with_room(&mut random, &list);
+    }
+}
+
+/// Of all kinds, with few locations and with many.
+#[test]
+fn the_longest_lists() {
+    let mut random = Random::new(508);
+    for cells in [1, 2, 6, 40, 2_000] {
+        let settings = Profile::random(&mut random, 0).settings;
+        let profile = Profile { settings, cells, ..Profile::plain(limits::MOST_RECORDS) };
+        let list = list(&mut random, &profile);
+        passes(&mut random, &list);
+    }
+}
+
+/// The decoded form says the same as the words.
+#[test]
+fn decoded_answers() {
+    let mut random = Random::new(507);
+    for _ in 0..2_000 {
+        let list = any_list(&mut random, 80);
+        let list = if random.percent(50) { list } else { damaged(&mut random, &list) };
+        let (words, table) = (&list.words, &list.table);
+        let Settings { count_regs, args, complex, arm, compress } = list.settings;
+        let settings = ffi::Settings { count_regs, args, complex, arm, compress };
+        let mut buffers = Buffers::new(words.len(), table.len());
+        let answer = optimize(words, table, settings, buffers.lend());
+        assert_eq!(answer, agree_with_room(&mut random, &list));
+        if let Answer::Reduced(counts) = answer {
+            let expected = run::reduced(&list);
+            assert_eq!(buffers.out[..8 * counts.records as usize], expected.words);
+            assert_eq!(buffers.set[..2 * counts.members as usize], expected.lent()[3]);
+        }
+    }
+}
