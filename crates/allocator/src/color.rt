@@ -1,11 +1,11 @@
 // The third walk (document 01, section 3): each static's colour, and the read set.
+use crate::allocs::partner;
+use crate::allocs::reset_allocs;
+use crate::allocs::update_allocs;
 use crate::locs::extend;
 use crate::locs::insert;
 use crate::pool::assign;
 use crate::pool::choose;
-use crate::allocs::partner;
-use crate::allocs::reset_allocs;
-use crate::allocs::update_allocs;
 use mir::config::Settings;
 use mir::record::record_at;
 use mir::rename::Current;

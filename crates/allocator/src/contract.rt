@@ -1,10 +1,10 @@
 // The last walk (document 01, section 4): the records that are kept, in colours.
+use crate::allocs::partner;
 use crate::color::FOUND;
 use crate::color::deallocate;
 use crate::color::loc_of;
 use crate::color::was_found;
 use crate::locs::contains;
-use crate::allocs::partner;
 use mir::config::Settings;
 use mir::record::record_at;
 use mir::rename::Current;

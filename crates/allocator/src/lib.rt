@@ -11,12 +11,12 @@ ghost use Rattle.mir.specs.Answers.{answered};
 ghost use Rattle.mir.specs.Shapes.{any};
 ghost use Rattle.passes.specs.Machine.{Passing};
 
+pub mod allocs;
 pub mod color;
 pub mod contract;
 pub mod create;
 pub mod locs;
 pub mod pool;
-pub mod allocs;
 
 use crate::color::Sizes;
 use crate::contract::Tally;
