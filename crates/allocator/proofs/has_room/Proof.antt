@@ -24,17 +24,11 @@ returns c =
     let a = c .before .args in
     rw (lt-leb (a .list) (a .out) (omega arith))
 
-mul-if2 : tie.Need-mul-if2
-mul-if2 c = search needs
-
 returns-2 : tie.Need-returns-2
 unfolding roomFor
 returns-2 c =
     let a = c .before .before .args in
     rw (le-leb (a .list) (a .out) (omega arith), lt-leb (a .list / 8 * 2) (a .colours) (omega arith))
-
-mul-if3 : tie.Need-mul-if3
-mul-if3 c = search needs
 
 returns-3 : tie.Need-returns-3
 unfolding roomFor
@@ -48,9 +42,6 @@ returns-4 c =
     let a = c .before .before .before .before .args in
     rw (le-leb (a .list) (a .out) (omega arith), le-leb (a .list / 8 * 2) (a .colours) (omega arith), le-leb (a .list / 8 * 2) (a .ends) (omega arith), lt-leb (a .list / 8 * 4 + a .table) (a .set) (omega arith))
 
-mul-result : tie.Need-mul-result
-mul-result c = search needs
-
 returns-5 : tie.Need-returns-5
 unfolding roomFor
 returns-5 c =
@@ -59,4 +50,4 @@ returns-5 c =
 
 pub has-room-spec : {M : Type 1} → statement M
 has-room-spec =
-    tie.close (tie.spec returns mul-if2 returns-2 mul-if3 returns-3 returns-4 mul-result returns-5)
+    tie.close (tie.spec returns (λ c. search needs) returns-2 (λ c. search needs) returns-3 returns-4 (λ c. search needs) returns-5)

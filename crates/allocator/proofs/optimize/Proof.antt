@@ -16,36 +16,12 @@ verdict-in c =
     let a = c .before .before .before .before .before .before .before .before in
     c .check .ensures ∙ ap (λ b. refusal b (a .args .settings) (a .args .list .now) (a .args .table .now)) (c .before .has-room .ensures)
 
-has-room-requires : tie.Need-has-room-requires
-has-room-requires c κs = search needs
-
-check-requires : tie.Need-check-requires
-check-requires c κs = search needs
-
-enum-told : tie.Need-enum-told
-enum-told c = search needs
-
 reduce-requires : tie.Need-reduce-requires
 unfolding roomIn
 reduce-requires c κs =
     let a = c .before .before .before .before .before .before .before .before .before .before .before .before .before .before in
     let v = sym (verdict-in (c .before .before .before .before .before .before)) ∙ c .before .before .before .before .enum-told .given .1 in
     (passing (a .args .settings) (a .args .list .now) (a .args .table .now) (lent (a .args .out .now) (a .args .colours .now) (a .args .ends .now) (a .args .set .now)) v, room-in (a .args .settings) (a .args .list .now) (a .args .table .now) (lent (a .args .out .now) (a .args .colours .now) (a .args .ends .now) (a .args .set .now)) v)
-
-enum-known-number : tie.Need-enum-known-number
-enum-known-number c = search needs
-
-same-length : tie.Need-same-length
-same-length c = search needs
-
-same-length-2 : tie.Need-same-length-2
-same-length-2 c = search needs
-
-same-length-3 : tie.Need-same-length-3
-same-length-3 c = search needs
-
-same-length-4 : tie.Need-same-length-4
-same-length-4 c = search needs
 
 returns : tie.Need-returns
 returns c =
@@ -62,14 +38,14 @@ pub optimize-spec : {M : Type 1} → statement M
 optimize-spec =
     tie.close
     (tie.spec
-    has-room-requires
-    check-requires
-    enum-told
+    (λ c κs. search needs)
+    (λ c κs. search needs)
+    (λ c. search needs)
     reduce-requires
-    enum-known-number
-    same-length
-    same-length-2
-    same-length-3
-    same-length-4
+    (λ c. search needs)
+    (λ c. search needs)
+    (λ c. search needs)
+    (λ c. search needs)
+    (λ c. search needs)
     returns
     returns-2)

@@ -7,27 +7,15 @@ use borrow.Author.Needs.{needs}
 use Rattle.cases.proofs.show_next.Statement.{statement}
 use Rattle.cases.proofs.show_next.Tie as tie
 
-length-to-requires : tie.Need-length-to-requires
-length-to-requires c κs = search needs
-
-array-borrow-prefix-file : tie.Need-array-borrow-prefix-file
-array-borrow-prefix-file c = search needs
-
 slice-aggregate-show-input : tie.Need-slice-aggregate-show-input
 slice-aggregate-show-input c = sym (length-take-le (c .before .length-to .result) (replicate 20512 0) (rw (length-replicate {A = ℕ} 20512 0) (c .before .length-to .ensures)))
-
-show-input-requires : tie.Need-show-input-requires
-show-input-requires c κs = search needs
-
-returns : tie.Need-returns
-returns c = search needs
 
 pub show-next-spec : {M : Type 1} → statement M
 show-next-spec =
     tie.close
     (tie.spec
-    length-to-requires
-    array-borrow-prefix-file
+    (λ c κs. search needs)
+    (λ c. search needs)
     slice-aggregate-show-input
-    show-input-requires
-    returns)
+    (λ c κs. search needs)
+    (λ c. search needs))

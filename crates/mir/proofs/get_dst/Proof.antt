@@ -11,35 +11,17 @@ use borrow.Author.Needs.{needs}
 use Rattle.mir.proofs.get_dst.Statement.{statement}
 use Rattle.mir.proofs.get_dst.Tie as tie
 
-array-read-kind : tie.Need-array-read-kind
-array-read-kind c = search needs
-
-array-read-bit : tie.Need-array-read-bit
-array-read-bit c = search needs
-
 bit-requires : tie.Need-bit-requires
 bit-requires c κs =
     let s = c .before in
     let len : length (s .args .t1) ≡ 8 = s .good .0 .1 .0 .1 in
     fits-one maxRegs (getD (s .args .t1) 1 0) (rw (branch-if-source (s .args .t1) len (c .match .keys1)) at (gens-fit-both maxRegs (s .args .t1) (s .pre) .1))
 
-dests-of-requires : tie.Need-dests-of-requires
-dests-of-requires c κs = search needs
-
-enum-told : tie.Need-enum-told
-enum-told c = search needs
-
-enum-known-x : tie.Need-enum-known-x
-enum-known-x c = search needs
-
 bit-requires-2 : tie.Need-bit-requires-2
 bit-requires-2 c κs =
     let x = c .before in
     let s = x .before .before .before .before in
     fits-one maxRegs (x .x .given .0 .0) (rw (sym (x .before .before .dests-of .ensures) ∙ ap listed (x .x .given .1)) at (gens-fit-both maxRegs (s .args .t1) (s .pre) .0))
-
-enum-known-x-2 : tie.Need-enum-known-x-2
-enum-known-x-2 c = search needs
 
 two-bits-requires : tie.Need-two-bits-requires
 two-bits-requires c κs =
@@ -75,14 +57,14 @@ pub get-dst-spec : {M : Type 1} → statement M
 get-dst-spec =
     tie.close
     (tie.spec
-    array-read-kind
-    array-read-bit
+    (λ c. search needs)
+    (λ c. search needs)
     bit-requires
-    dests-of-requires
-    enum-told
-    enum-known-x
+    (λ c κs. search needs)
+    (λ c. search needs)
+    (λ c. search needs)
     bit-requires-2
-    enum-known-x-2
+    (λ c. search needs)
     two-bits-requires
     returns
     returns-2

@@ -5,12 +5,6 @@ use borrow.Author.Needs.{needs}
 use Rattle.mir.proofs.is_label.Statement.{statement}
 use Rattle.mir.proofs.is_label.Tie as tie
 
-array-read-if1 : tie.Need-array-read-if1
-array-read-if1 c = search needs
-
-array-read-result : tie.Need-array-read-result
-array-read-result c = search needs
-
 returns : tie.Need-returns
 unfolding isLabel
 returns c = simp (eq-eqb _ _ (c .if1 .taken))
@@ -20,4 +14,4 @@ unfolding isLabel
 returns-2 c = simp (ne-eqb _ _ (c .if1 .left))
 
 pub is-label-spec : {M : Type 1} → statement M
-is-label-spec = tie.close (tie.spec array-read-if1 array-read-result returns returns-2)
+is-label-spec = tie.close (tie.spec (λ c. search needs) (λ c. search needs) returns returns-2)

@@ -27,21 +27,6 @@ loop-holds : tie.Need-loop-holds Inv-loop μ-loop
 unfolding lastBelow
 loop-holds c = (search needs, refl)
 
-record-at-requires : tie.Need-record-at-requires Inv-loop μ-loop
-record-at-requires c κs = omega arith
-
-cast-later-label : tie.Need-cast-later-label Inv-loop μ-loop
-cast-later-label c = search needs
-
-later-label-requires : tie.Need-later-label-requires Inv-loop μ-loop
-later-label-requires c κs = search needs
-
-add-i : tie.Need-add-i Inv-loop μ-loop
-add-i c = search needs
-
-loop-less : tie.Need-loop-less Inv-loop μ-loop
-loop-less c = search needs
-
 loop-again : tie.Need-loop-again Inv-loop μ-loop
 unfolding lastBelow
 loop-again c =
@@ -67,10 +52,10 @@ last-label-spec =
     Inv-loop
     μ-loop
     loop-holds
-    record-at-requires
-    cast-later-label
-    later-label-requires
-    add-i
-    loop-less
+    (λ c κs. omega arith)
+    (λ c. search needs)
+    (λ c κs. search needs)
+    (λ c. search needs)
+    (λ c. search needs)
     loop-again
     returns)

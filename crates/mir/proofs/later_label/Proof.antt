@@ -4,9 +4,6 @@ use borrow.Author.Needs.{needs}
 use Rattle.mir.proofs.later_label.Statement.{statement}
 use Rattle.mir.proofs.later_label.Tie as tie
 
-is-label-requires : tie.Need-is-label-requires
-is-label-requires c κs = search needs
-
 returns : tie.Need-returns
 returns c = simp (sym (c .before .is-label .ensures) ∙ c .if1 .taken)
 
@@ -14,4 +11,4 @@ returns-2 : tie.Need-returns-2
 returns-2 c = simp (sym (c .before .is-label .ensures) ∙ c .if1 .left)
 
 pub later-label-spec : {M : Type 1} → statement M
-later-label-spec = tie.close (tie.spec is-label-requires returns returns-2)
+later-label-spec = tie.close (tie.spec (λ c κs. search needs) returns returns-2)

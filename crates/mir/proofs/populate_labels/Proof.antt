@@ -8,15 +8,6 @@ use borrow.Author.Needs.{needs}
 use Rattle.mir.proofs.populate_labels.Statement.{statement}
 use Rattle.mir.proofs.populate_labels.Tie as tie
 
-check-beside-requires : tie.Need-check-beside-requires
-check-beside-requires c κs = search needs
-
-enum-known-verdict : tie.Need-enum-known-verdict
-enum-known-verdict c = search needs
-
-enum-told : tie.Need-enum-told
-enum-told c = search needs
-
 last-label-requires : tie.Need-last-label-requires
 last-label-requires c κs =
     let a = c .before .before .before .before .before .args in
@@ -38,9 +29,9 @@ pub populate-labels-spec : {M : Type 1} → statement M
 populate-labels-spec =
     tie.close
     (tie.spec
-    check-beside-requires
-    enum-known-verdict
-    enum-told
+    (λ c κs. search needs)
+    (λ c. search needs)
+    (λ c. search needs)
     last-label-requires
     returns
     returns-2)

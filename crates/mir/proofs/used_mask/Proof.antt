@@ -24,20 +24,11 @@ loop-holds : tie.Need-loop-holds Inv-loop μ-loop
 unfolding maskTo
 loop-holds c = (search needs, refl)
 
-record-at-requires : tie.Need-record-at-requires Inv-loop μ-loop
-record-at-requires c κs = omega arith
-
 get-dst-requires : tie.Need-get-dst-requires Inv-loop μ-loop
 get-dst-requires c κs =
     let at = c .before .before in
     let s = at .before .before .before in
     rw (c .record-at .ensures) (s .pre (at .loop .i) (c .before .loop-test .taken))
-
-add-i : tie.Need-add-i Inv-loop μ-loop
-add-i c = search needs
-
-loop-less : tie.Need-loop-less Inv-loop μ-loop
-loop-less c = search needs
 
 loop-again : tie.Need-loop-again Inv-loop μ-loop
 unfolding maskTo
@@ -61,9 +52,9 @@ used-mask-spec =
     μ-loop
     returns
     loop-holds
-    record-at-requires
+    (λ c κs. omega arith)
     get-dst-requires
-    add-i
-    loop-less
+    (λ c. search needs)
+    (λ c. search needs)
     loop-again
     returns-2)

@@ -13,15 +13,6 @@ use borrow.Author.Needs.{needs}
 use Rattle.mir.proofs.used_registers.Statement.{statement}
 use Rattle.mir.proofs.used_registers.Tie as tie
 
-check-beside-requires : tie.Need-check-beside-requires
-check-beside-requires c κs = search needs
-
-enum-known-verdict : tie.Need-enum-known-verdict
-enum-known-verdict c = search needs
-
-enum-told : tie.Need-enum-told
-enum-told c = search needs
-
 used-mask-requires : tie.Need-used-mask-requires
 used-mask-requires c κs =
     let a = c .before .before .before .before .before .args in
@@ -46,9 +37,9 @@ pub used-registers-spec : {M : Type 1} → statement M
 used-registers-spec =
     tie.close
     (tie.spec
-    check-beside-requires
-    enum-known-verdict
-    enum-told
+    (λ c κs. search needs)
+    (λ c. search needs)
+    (λ c. search needs)
     used-mask-requires
     returns
     returns-2)

@@ -23,20 +23,8 @@ mul-room c = omega (arith, sections-in (c .before .before) .few-records)
 add-room : tie.Need-add-room
 add-room c = omega (arith, sections-in (c .before .before) .few-records)
 
-slice-aggregate-reduce-sections : tie.Need-slice-aggregate-reduce-sections
-slice-aggregate-reduce-sections c = search needs
-
 reduce-sections-requires : tie.Need-reduce-sections-requires
 reduce-sections-requires c κs = (c .before .before .before .pre, λ r. omega (arith, sections-in (c .before .before .before) .few-records))
-
-enum-known-c : tie.Need-enum-known-c
-enum-known-c c = search needs
-
-cast-end : tie.Need-cast-end
-cast-end c = search needs
-
-mul-end : tie.Need-mul-end
-mul-end c = search needs
 
 -- the answer, and what the words hold
 answer-is : (c : tie.After-known-told) → answered (valuesIn (c .before .c .given .0 .0)) ≡ unless (fileVerdict (leb (4 + c .before .before .before .before .before .before .before .before .args .records * 32) (length (c .before .before .before .before .before .before .before .before .args .out .now))) (c .before .before .before .before .before .before .before .before .args .file .now)) (fileCounts (c .before .before .before .before .before .before .before .before .args .file .now))
@@ -50,18 +38,6 @@ slice-aggregate-write-words c = sym (words-count (c .before .before .before .bef
 
 write-words-requires : tie.Need-write-words-requires
 write-words-requires c κs = bytes-fit (c .before .before .before .before .before .before .before .before .before .before .args .file .now) (c .before .before .before .before .before .before .before .before .before .before .args .out .now) (c .before .before .before .before .before .before .before .before .before .before .args .pairs) (c .before .before .before .before .before .before .before .before .before .before .args .records) (sections-in (c .before .before .before .before .before .before .before .before .before .before)) (c .before .before .before .c .given .0 .0) (replicate 4096 0) (c .before .before .before .before .before .before .reduce-sections .last .1 .1 .1 .1 .0) (answer-is (c .before .before)) (c .before .before .before .before .before .before .reduce-sections .ensures .1)
-
-cast-result : tie.Need-cast-result
-cast-result c = search needs
-
-enum-known-number : tie.Need-enum-known-number
-enum-known-number c = search needs
-
-refusal-word-requires : tie.Need-refusal-word-requires
-refusal-word-requires c κs = search needs
-
-same-length : tie.Need-same-length
-same-length c = search needs
 
 returns : tie.Need-returns
 returns c = written-promise (c .before .before .before .before .before .before .before .before .before .before .before .before .before .args .file .now) (c .before .before .before .before .before .before .before .before .before .before .before .before .before .args .out .now) (c .before .before .before .before .before .before .before .before .before .before .before .before .before .args .pairs) (c .before .before .before .before .before .before .before .before .before .before .before .before .before .args .records) (sections-in (c .before .before .before .before .before .before .before .before .before .before .before .before .before)) (c .before .before .before .before .before .before .c .given .0 .0) (replicate 4096 0) (c .before .before .before .before .before .before .before .before .before .reduce-sections .last .1 .1 .1 .1 .0) (answer-is (c .before .before .before .before .before)) (c .before .before .before .before .before .before .before .before .before .reduce-sections .ensures .1) (c .before .before .write-words .ensures)
@@ -78,17 +54,17 @@ reduce-bytes-spec =
     (tie.spec
     mul-room
     add-room
-    slice-aggregate-reduce-sections
+    (λ c. search needs)
     reduce-sections-requires
-    enum-known-c
-    cast-end
-    mul-end
+    (λ c. search needs)
+    (λ c. search needs)
+    (λ c. search needs)
     array-share-prefix-words
     slice-aggregate-write-words
     write-words-requires
-    cast-result
-    enum-known-number
-    refusal-word-requires
-    same-length
+    (λ c. search needs)
+    (λ c. search needs)
+    (λ c κs. search needs)
+    (λ c. search needs)
     returns
     returns-2)

@@ -13,26 +13,8 @@ use borrow.Author.Needs.{needs}
 use Rattle.rudzaviks.proofs.rudzaviks_reduce.Statement.{statement}
 use Rattle.rudzaviks.proofs.rudzaviks_reduce.Tie as tie
 
-layout-of-requires : tie.Need-layout-of-requires
-layout-of-requires c κs = search needs
-
-enum-known-pairs : tie.Need-enum-known-pairs
-enum-known-pairs c = search needs
-
 reduce-bytes-requires : tie.Need-reduce-bytes-requires
 reduce-bytes-requires c κs = sym (c .before .before .before .before .layout-of .ensures) ∙ c .before .before .pairs .given .1
-
-enum-told : tie.Need-enum-told
-enum-told c = search needs
-
-refusal-word-requires : tie.Need-refusal-word-requires
-refusal-word-requires c κs = search needs
-
-same-length : tie.Need-same-length
-same-length c = search needs
-
-returns : tie.Need-returns
-returns c = search needs
 
 returns-2 : tie.Need-returns-2
 returns-2 c =
@@ -44,11 +26,11 @@ pub rudzaviks-reduce-spec : {M : Type 1} → statement M
 rudzaviks-reduce-spec =
     tie.close
     (tie.spec
-    layout-of-requires
-    enum-known-pairs
+    (λ c κs. search needs)
+    (λ c. search needs)
     reduce-bytes-requires
-    enum-told
-    refusal-word-requires
-    same-length
-    returns
+    (λ c. search needs)
+    (λ c κs. search needs)
+    (λ c. search needs)
+    (λ c. search needs)
     returns-2)

@@ -25,12 +25,6 @@ few-used n compress list table = go (refusalBeside n list table)
     go Passed = ones-most 32 m
     go (Refused number index) = tt
 
-settings-beside-requires : tie.Need-settings-beside-requires
-settings-beside-requires c κs = search needs
-
-used-registers-requires : tie.Need-used-registers-requires
-used-registers-requires c κs = search needs
-
 used-word-requires : tie.Need-used-word-requires
 used-word-requires c κs = rw (c .used-registers .ensures) (few-used _ _ _ _)
 
@@ -42,4 +36,4 @@ returns c =
 pub rudzaviks-used-registers-spec : {M : Type 1} → statement M
 rudzaviks-used-registers-spec =
     tie.close
-    (tie.spec settings-beside-requires used-registers-requires used-word-requires returns)
+    (tie.spec (λ c κs. search needs) (λ c κs. search needs) used-word-requires returns)

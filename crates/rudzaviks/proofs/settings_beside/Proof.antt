@@ -5,11 +5,8 @@ use borrow.Author.Needs.{needs}
 use Rattle.rudzaviks.proofs.settings_beside.Statement.{statement}
 use Rattle.rudzaviks.proofs.settings_beside.Tie as tie
 
-settings-of-requires : tie.Need-settings-of-requires
-settings-of-requires c κs = search needs
-
 returns : tie.Need-returns
 returns c = (ap (λ (s : Settings). s .«count_regs») (c .settings-of .ensures), ap (λ (s : Settings). s .compress) (c .settings-of .ensures))
 
 pub settings-beside-spec : {M : Type 1} → statement M
-settings-beside-spec = tie.close (tie.spec settings-of-requires returns)
+settings-beside-spec = tie.close (tie.spec (λ c κs. search needs) returns)

@@ -5,32 +5,17 @@ use borrow.Author.Needs.{needs}
 use Rattle.rudzaviks.proofs.used_word.Statement.{statement}
 use Rattle.rudzaviks.proofs.used_word.Tie as tie
 
-enum-known-used : tie.Need-enum-known-used
-enum-known-used c = search needs
-
-cast-result : tie.Need-cast-result
-cast-result c = search needs
-
 mul-result : tie.Need-mul-result
 mul-result c =
     let s = c .before .before .before in
     let h : c .before .used .given .0 .1 .0 ≤ 32 = rw (c .before .used .given .1) at (s .pre) in
     omega arith
 
-cast-result-2 : tie.Need-cast-result-2
-cast-result-2 c = search needs
-
 add-result : tie.Need-add-result
 add-result c =
     let s = c .before .before .before in
     let h : c .before .used .given .0 .1 .0 ≤ 32 = rw (c .before .used .given .1) at (s .pre) in
     omega arith
-
-enum-known-used-2 : tie.Need-enum-known-used-2
-enum-known-used-2 c = search needs
-
-refusal-word-requires : tie.Need-refusal-word-requires
-refusal-word-requires c κs = search needs
 
 returns : tie.Need-returns
 returns c = rw (c .before .used .given .1)
@@ -42,12 +27,12 @@ pub used-word-spec : {M : Type 1} → statement M
 used-word-spec =
     tie.close
     (tie.spec
-    enum-known-used
-    cast-result
+    (λ c. search needs)
+    (λ c. search needs)
     mul-result
-    cast-result-2
+    (λ c. search needs)
     add-result
-    enum-known-used-2
-    refusal-word-requires
+    (λ c. search needs)
+    (λ c κs. search needs)
     returns
     returns-2)

@@ -6,9 +6,6 @@ use borrow.Author.Needs.{needs}
 use Rattle.rudzaviks.proofs.write_counts.Statement.{statement}
 use Rattle.rudzaviks.proofs.write_counts.Tie as tie
 
-slice-write-counts : tie.Need-slice-write-counts
-slice-write-counts c = search needs
-
 slice-write-counts-2 : tie.Need-slice-write-counts-2
 slice-write-counts-2 c = kept-length (c .args .counts .now) 0 (c .args .c .records) (omega (arith, c .pre))
 
@@ -24,12 +21,6 @@ slice-write-counts-5 c = kept-length (set (set (set (c .args .counts .now) 0 (c 
 slice-write-counts-6 : tie.Need-slice-write-counts-6
 slice-write-counts-6 c = kept-length (set (set (set (set (c .args .counts .now) 0 (c .args .c .records)) 1 (c .args .c .statics)) 2 (c .args .c .members)) 3 (c .args .c .nops)) 4 (c .args .c .loads) (kept-length (set (set (set (c .args .counts .now) 0 (c .args .c .records)) 1 (c .args .c .statics)) 2 (c .args .c .members)) 3 (c .args .c .nops) (kept-length (set (set (c .args .counts .now) 0 (c .args .c .records)) 1 (c .args .c .statics)) 2 (c .args .c .members) (kept-length (set (c .args .counts .now) 0 (c .args .c .records)) 1 (c .args .c .statics) (kept-length (c .args .counts .now) 0 (c .args .c .records) (omega (arith, c .pre))))))
 
-slice-write-counts-7 : tie.Need-slice-write-counts-7
-slice-write-counts-7 c = search needs
-
-same-length : tie.Need-same-length
-same-length c = search needs
-
 returns : tie.Need-returns
 returns c = seven (c .args .counts .now) (c .args .c .records) (c .args .c .statics) (c .args .c .members) (c .args .c .nops) (c .args .c .loads) (c .args .c .moves) (c .args .c .saves) (c .pre)
 
@@ -37,12 +28,12 @@ pub write-counts-spec : {M : Type 1} → statement M
 write-counts-spec =
     tie.close
     (tie.spec
-    slice-write-counts
+    (λ c. search needs)
     slice-write-counts-2
     slice-write-counts-3
     slice-write-counts-4
     slice-write-counts-5
     slice-write-counts-6
-    slice-write-counts-7
-    same-length
+    (λ c. search needs)
+    (λ c. search needs)
     returns)

@@ -6,21 +6,6 @@ use borrow.Author.Needs.{needs}
 use Rattle.vectors.proofs.replay_optimize.Statement.{statement}
 use Rattle.vectors.proofs.replay_optimize.Tie as tie
 
-length-to-requires : tie.Need-length-to-requires
-length-to-requires c κs = search needs
-
-length-to-requires-2 : tie.Need-length-to-requires-2
-length-to-requires-2 c κs = search needs
-
-length-to-requires-3 : tie.Need-length-to-requires-3
-length-to-requires-3 c κs = search needs
-
-length-to-requires-4 : tie.Need-length-to-requires-4
-length-to-requires-4 c κs = search needs
-
-length-to-requires-5 : tie.Need-length-to-requires-5
-length-to-requires-5 c κs = search needs
-
 array-borrow-prefix-out : tie.Need-array-borrow-prefix-out
 array-borrow-prefix-out c = search needs
 
@@ -51,21 +36,15 @@ array-borrow-prefix-counts c = search needs
 slice-aggregate-reduces-5 : tie.Need-slice-aggregate-reduces-5
 slice-aggregate-reduces-5 c = sym (length-take-le _ _ (array-borrow-prefix-counts (c .before)))
 
-reduces-requires : tie.Need-reduces-requires
-reduces-requires c κs = search needs
-
-returns : tie.Need-returns
-returns c = search needs
-
 pub replay-optimize-spec : {M : Type 1} → statement M
 replay-optimize-spec =
     tie.close
     (tie.spec
-    length-to-requires
-    length-to-requires-2
-    length-to-requires-3
-    length-to-requires-4
-    length-to-requires-5
+    (λ c κs. search needs)
+    (λ c κs. search needs)
+    (λ c κs. search needs)
+    (λ c κs. search needs)
+    (λ c κs. search needs)
     array-borrow-prefix-out
     slice-aggregate-reduces
     array-borrow-prefix-colours
@@ -76,5 +55,5 @@ replay-optimize-spec =
     slice-aggregate-reduces-4
     array-borrow-prefix-counts
     slice-aggregate-reduces-5
-    reduces-requires
-    returns)
+    (λ c κs. search needs)
+    (λ c. search needs))

@@ -20,27 +20,6 @@ abbrev μ-loop : tie.MeasureT-loop
 loop-holds : tie.Need-loop-holds Inv-loop μ-loop
 loop-holds c = (search needs, c .good .0 .1 .0 .1, mapped-zero _ _)
 
-mul-without : tie.Need-mul-without Inv-loop μ-loop
-mul-without c = search needs
-
-array-copy-out-without : tie.Need-array-copy-out-without Inv-loop μ-loop
-array-copy-out-without c = search needs
-
-without-requires : tie.Need-without-requires Inv-loop μ-loop
-without-requires c κs = search needs
-
-mul-out : tie.Need-mul-out Inv-loop μ-loop
-mul-out c = search needs
-
-array-set-from-out : tie.Need-array-set-from-out Inv-loop μ-loop
-array-set-from-out c = search needs
-
-add-c : tie.Need-add-c Inv-loop μ-loop
-add-c c = search needs
-
-loop-less : tie.Need-loop-less Inv-loop μ-loop
-loop-less c = search needs
-
 loop-again : tie.Need-loop-again Inv-loop μ-loop
 loop-again c =
     let b = c .before .before .before in
@@ -61,12 +40,12 @@ clear-spec =
     Inv-loop
     μ-loop
     loop-holds
-    mul-without
-    array-copy-out-without
-    without-requires
-    mul-out
-    array-set-from-out
-    add-c
-    loop-less
+    (λ c. search needs)
+    (λ c. search needs)
+    (λ c κs. search needs)
+    (λ c. search needs)
+    (λ c. search needs)
+    (λ c. search needs)
+    (λ c. search needs)
     loop-again
     returns)

@@ -4,14 +4,8 @@ use borrow.Author.Needs.{needs}
 use Rattle.allocator.proofs.allocs.give.Statement.{statement}
 use Rattle.allocator.proofs.allocs.give.Tie as tie
 
-mul-old : tie.Need-mul-old
-mul-old c = search needs
-
 array-copy-out-old : tie.Need-array-copy-out-old
 array-copy-out-old c = c .before .pre (c .if1 .taken)
-
-mul-out : tie.Need-mul-out
-mul-out c = search needs
 
 array-set-from-out : tie.Need-array-set-from-out
 array-set-from-out c = c .before .before .pre (c .before .if1 .taken)
@@ -24,4 +18,4 @@ returns-2 c = rw (le-ltb _ _ (c .if1 .left))
 
 pub give-spec : {M : Type 1} → statement M
 give-spec =
-    tie.close (tie.spec mul-old array-copy-out-old mul-out array-set-from-out returns returns-2)
+    tie.close (tie.spec (λ c. search needs) array-copy-out-old (λ c. search needs) array-set-from-out returns returns-2)

@@ -3,14 +3,8 @@ use borrow.Author.Needs.{needs}
 use Rattle.allocator.proofs.allocs.save.Statement.{statement}
 use Rattle.allocator.proofs.allocs.save.Tie as tie
 
-clear-requires : tie.Need-clear-requires
-clear-requires c κs = search needs
-
-give-requires : tie.Need-give-requires
-give-requires c κs = search needs
-
 returns : tie.Need-returns
 returns c = rw (← (c .before .clear .ensures)) (c .give .ensures)
 
 pub save-spec : {M : Type 1} → statement M
-save-spec = tie.close (tie.spec clear-requires give-requires returns)
+save-spec = tie.close (tie.spec (λ c κs. search needs) (λ c κs. search needs) returns)

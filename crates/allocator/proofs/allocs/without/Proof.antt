@@ -4,9 +4,6 @@ use borrow.Author.Needs.{needs}
 use Rattle.allocator.proofs.allocs.without.Statement.{statement}
 use Rattle.allocator.proofs.allocs.without.Tie as tie
 
-holds-requires : tie.Need-holds-requires
-holds-requires c κs = search needs
-
 returns : tie.Need-returns
 returns c = rw (sym (c .before .holds .ensures) ∙ c .if1 .taken)
 
@@ -14,4 +11,4 @@ returns-2 : tie.Need-returns-2
 returns-2 c = rw (sym (c .before .holds .ensures) ∙ c .if1 .left)
 
 pub without-spec : {M : Type 1} → statement M
-without-spec = tie.close (tie.spec holds-requires returns returns-2)
+without-spec = tie.close (tie.spec (λ c κs. search needs) returns returns-2)

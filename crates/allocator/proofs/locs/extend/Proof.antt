@@ -23,12 +23,6 @@ loop-holds : tie.Need-loop-holds Inv-loop μ-loop
 unfolding joined pairsFrom
 loop-holds c = (search needs, (set-first (c .before .before .before .args .set .now) (c .before .before .before .args .members) (c .before .before .before .pre .1 .0), (c .before .before .before .pre .0, refl)))
 
-add-loc-at : tie.Need-add-loc-at Inv-loop μ-loop
-add-loc-at c = search needs
-
-loc-at-requires : tie.Need-loc-at-requires Inv-loop μ-loop
-loc-at-requires c κs = search needs
-
 insert-requires : tie.Need-insert-requires Inv-loop μ-loop
 insert-requires c κs =
     let b = c .before .before .before .before in
@@ -42,12 +36,6 @@ insert-requires c κs =
         rw e (extend-room base t (a .args .first) (a .args .count) (b .loop .j) (c .before .before .before .loop-test .taken) (a .pre .1 .1 .1) (b .loop .inv .1 .0)),
       ),
     )
-
-add-j : tie.Need-add-j Inv-loop μ-loop
-add-j c = search needs
-
-loop-less : tie.Need-loop-less Inv-loop μ-loop
-loop-less c = search needs
 
 loop-again : tie.Need-loop-again Inv-loop μ-loop
 loop-again c =
@@ -84,11 +72,11 @@ extend-spec =
     Inv-loop
     μ-loop
     loop-holds
-    add-loc-at
-    loc-at-requires
+    (λ c. search needs)
+    (λ c κs. search needs)
     insert-requires
-    add-j
-    loop-less
+    (λ c. search needs)
+    (λ c. search needs)
     loop-again
     same-length
     same-length-2

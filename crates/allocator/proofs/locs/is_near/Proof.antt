@@ -7,11 +7,8 @@ use Rattle.allocator.proofs.locs.is_near.Tie as tie
 returns : tie.Need-returns
 returns c = rw (le-ltb (c .before .before .args .l .space) 3 (c .if1 .taken))
 
-cast-result : tie.Need-cast-result
-cast-result c = search needs
-
 returns-2 : tie.Need-returns-2
 returns-2 c = rw (lt-ltb (c .before .before .before .args .l .space) 3 (c .before .if1 .left))
 
 pub is-near-spec : {M : Type 1} → statement M
-is-near-spec = tie.close (tie.spec returns cast-result returns-2)
+is-near-spec = tie.close (tie.spec returns (λ c. search needs) returns-2)

@@ -7,9 +7,6 @@ use borrow.Author.Needs.{needs}
 use Rattle.allocator.proofs.locs.note.Statement.{statement}
 use Rattle.allocator.proofs.locs.note.Tie as tie
 
-is-near-requires : tie.Need-is-near-requires
-is-near-requires c κs = search needs
-
 cell-requires : tie.Need-cell-requires
 cell-requires c κs = (sym (c .before .is-near .ensures) ∙ c .if1 .taken, search needs)
 
@@ -17,9 +14,6 @@ slice-write-seen : tie.Need-slice-write-seen
 slice-write-seen c =
     let seen = c .before .before .before .before .args .seen .now in
     rw (c .cell .ensures) (omega (arith, cell-in (rowOf seen) (c .before .before .before .before .args .l) (sym (c .before .before .is-near .ensures) ∙ c .before .if1 .taken), row-in seen))
-
-same-length : tie.Need-same-length
-same-length c = search needs
 
 returns : tie.Need-returns
 returns c = rw (c .cell .ensures, sym (c .before .before .is-near .ensures) ∙ c .before .if1 .taken) refl
@@ -30,4 +24,4 @@ returns-2 c = rw (sym (c .before .is-near .ensures) ∙ c .if1 .left) refl
 pub note-spec : {M : Type 1} → statement M
 note-spec =
     tie.close
-    (tie.spec is-near-requires cell-requires slice-write-seen same-length returns returns-2)
+    (tie.spec (λ c κs. search needs) cell-requires slice-write-seen (λ c. search needs) returns returns-2)

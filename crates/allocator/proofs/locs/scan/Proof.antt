@@ -20,24 +20,12 @@ abbrev μ-loop : tie.MeasureT-loop
 loop-holds : tie.Need-loop-holds Inv-loop μ-loop
 loop-holds c = (search needs, sym (member-none _ _))
 
-loc-at-requires : tie.Need-loc-at-requires Inv-loop μ-loop
-loc-at-requires c κs = search needs
-
-same-loc-requires : tie.Need-same-loc-requires Inv-loop μ-loop
-same-loc-requires c κs = search needs
-
 returns : tie.Need-returns Inv-loop μ-loop
 returns c =
     let b = c .before .before .before .before in
     let a = b .before .before .args in
     let e = sym (ap (λ m. sameLoc m (a .l)) (c .before .before .loc-at .ensures)) ∙ (sym (c .before .same-loc .ensures) ∙ c .if1 .taken) in
     sym (member-stays (now (a .set)) (a .l) _ (a .members) (omega (arith, c .before .before .before .loop-test .taken)) (member-more (now (a .set)) (a .l) (b .loop .j) true (b .loop .inv .1) e))
-
-add-j : tie.Need-add-j Inv-loop μ-loop
-add-j c = search needs
-
-loop-less : tie.Need-loop-less Inv-loop μ-loop
-loop-less c = search needs
 
 loop-again : tie.Need-loop-again Inv-loop μ-loop
 loop-again c =
@@ -58,10 +46,10 @@ scan-spec =
     Inv-loop
     μ-loop
     loop-holds
-    loc-at-requires
-    same-loc-requires
+    (λ c κs. search needs)
+    (λ c κs. search needs)
     returns
-    add-j
-    loop-less
+    (λ c. search needs)
+    (λ c. search needs)
     loop-again
     returns-2)

@@ -9,18 +9,6 @@ use borrow.Author.Needs.{needs}
 use Rattle.allocator.proofs.pool.allocate.Statement.{statement}
 use Rattle.allocator.proofs.pool.allocate.Tie as tie
 
-first-requires : tie.Need-first-requires
-first-requires c κs = search needs
-
-enum-known-bare : tie.Need-enum-known-bare
-enum-known-bare c = search needs
-
-enum-told : tie.Need-enum-told
-enum-told c = search needs
-
-allocate-free-requires : tie.Need-allocate-free-requires
-allocate-free-requires c κs = search needs
-
 returns : tie.Need-returns
 unfolding plainChoice
 returns c =
@@ -38,4 +26,4 @@ returns-2 c =
 pub allocate-spec : {M : Type 1} → statement M
 allocate-spec =
     tie.close
-    (tie.spec first-requires enum-known-bare enum-told allocate-free-requires returns returns-2)
+    (tie.spec (λ c κs. search needs) (λ c. search needs) (λ c. search needs) (λ c κs. search needs) returns returns-2)

@@ -7,15 +7,6 @@ use borrow.Author.Needs.{needs}
 use Rattle.allocator.proofs.pool.allocate_free.Statement.{statement}
 use Rattle.allocator.proofs.pool.allocate_free.Tie as tie
 
-first-requires : tie.Need-first-requires
-first-requires c κs = search needs
-
-enum-known-free : tie.Need-enum-known-free
-enum-known-free c = search needs
-
-enum-told : tie.Need-enum-told
-enum-told c = search needs
-
 returns : tie.Need-returns
 returns c =
     let f = c .before .before in
@@ -28,4 +19,4 @@ returns-2 c =
 
 pub allocate-free-spec : {M : Type 1} → statement M
 allocate-free-spec =
-    tie.close (tie.spec first-requires enum-known-free enum-told returns returns-2)
+    tie.close (tie.spec (λ c κs. search needs) (λ c. search needs) (λ c. search needs) returns returns-2)

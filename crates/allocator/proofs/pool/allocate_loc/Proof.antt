@@ -7,18 +7,6 @@ use borrow.Author.Needs.{needs}
 use Rattle.allocator.proofs.pool.allocate_loc.Statement.{statement}
 use Rattle.allocator.proofs.pool.allocate_loc.Tie as tie
 
-first-requires : tie.Need-first-requires
-first-requires c κs = search needs
-
-enum-known-holder : tie.Need-enum-known-holder
-enum-known-holder c = search needs
-
-enum-told : tie.Need-enum-told
-enum-told c = search needs
-
-allocate-requires : tie.Need-allocate-requires
-allocate-requires c κs = search needs
-
 returns : tie.Need-returns
 returns c =
     let f = c .before .before .before in
@@ -34,4 +22,4 @@ returns-2 c =
 pub allocate-loc-spec : {M : Type 1} → statement M
 allocate-loc-spec =
     tie.close
-    (tie.spec first-requires enum-known-holder enum-told allocate-requires returns returns-2)
+    (tie.spec (λ c κs. search needs) (λ c. search needs) (λ c. search needs) (λ c κs. search needs) returns returns-2)

@@ -27,29 +27,11 @@ abbrev μ-loop : tie.MeasureT-loop
 loop-holds : tie.Need-loop-holds Inv-loop μ-loop
 loop-holds c = (search needs, first-zero _)
 
-mul-meets : tie.Need-mul-meets Inv-loop μ-loop
-mul-meets c = search needs
-
-array-copy-out-meets : tie.Need-array-copy-out-meets Inv-loop μ-loop
-array-copy-out-meets c = omega arith
-
-meets-requires : tie.Need-meets-requires Inv-loop μ-loop
-meets-requires c κs = search needs
-
-cast-t13 : tie.Need-cast-t13 Inv-loop μ-loop
-cast-t13 c = search needs
-
 returns : tie.Need-returns Inv-loop μ-loop
 returns c =
     let b = c .before .before .before .before in
     let a = b .before .args in
     sym (first-stops (at (a .criterion) (a .i) (a .t1)) (a .n) (b .loop .c) (c .before .before .before .loop-test .taken) (b .loop .inv .1) (sym (c .before .meets .ensures) ∙ c .if1 .taken))
-
-add-c : tie.Need-add-c Inv-loop μ-loop
-add-c c = search needs
-
-loop-less : tie.Need-loop-less Inv-loop μ-loop
-loop-less c = search needs
 
 loop-again : tie.Need-loop-again Inv-loop μ-loop
 loop-again c =
@@ -69,12 +51,12 @@ first-spec =
     Inv-loop
     μ-loop
     loop-holds
-    mul-meets
-    array-copy-out-meets
-    meets-requires
-    cast-t13
+    (λ c. search needs)
+    (λ c. omega arith)
+    (λ c κs. search needs)
+    (λ c. search needs)
     returns
-    add-c
-    loop-less
+    (λ c. search needs)
+    (λ c. search needs)
     loop-again
     returns-2)

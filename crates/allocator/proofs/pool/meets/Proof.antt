@@ -3,21 +3,6 @@ use borrow.Author.Needs.{needs}
 use Rattle.allocator.proofs.pool.meets.Statement.{statement}
 use Rattle.allocator.proofs.pool.meets.Tie as tie
 
-enum-known-criterion : tie.Need-enum-known-criterion
-enum-known-criterion c = search needs
-
-holds-requires : tie.Need-holds-requires
-holds-requires c κs = search needs
-
-enum-told : tie.Need-enum-told
-enum-told c = search needs
-
-enum-told-2 : tie.Need-enum-told-2
-enum-told-2 c = search needs
-
-is-free-bare-requires : tie.Need-is-free-bare-requires
-is-free-bare-requires c κs = search needs
-
 returns : tie.Need-returns
 returns c = rw (c .before .before .criterion .given .1) (c .holds .ensures)
 
@@ -31,11 +16,11 @@ pub meets-spec : {M : Type 1} → statement M
 meets-spec =
     tie.close
     (tie.spec
-    enum-known-criterion
-    holds-requires
-    enum-told
-    enum-told-2
-    is-free-bare-requires
+    (λ c. search needs)
+    (λ c κs. search needs)
+    (λ c. search needs)
+    (λ c. search needs)
+    (λ c κs. search needs)
     returns
     returns-2
     returns-3)

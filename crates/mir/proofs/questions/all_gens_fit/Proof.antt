@@ -22,18 +22,6 @@ abbrev μ-loop : tie.MeasureT-loop
 loop-holds : tie.Need-loop-holds Inv-loop μ-loop
 loop-holds c = (search needs, all-none _)
 
-add-gen-fits : tie.Need-add-gen-fits Inv-loop μ-loop
-add-gen-fits c = search needs
-
-mul-gen-fits : tie.Need-mul-gen-fits Inv-loop μ-loop
-mul-gen-fits c = search needs
-
-array-read-gen-fits : tie.Need-array-read-gen-fits Inv-loop μ-loop
-array-read-gen-fits c = search needs
-
-gen-fits-requires : tie.Need-gen-fits-requires Inv-loop μ-loop
-gen-fits-requires c κs = search needs
-
 returns : tie.Need-returns Inv-loop μ-loop
 returns c =
     let at = c .before .before .before in
@@ -44,12 +32,6 @@ returns c =
     (all-words (genFits (a .count-regs)) (a .t1) (a .from) (a .count) (omega arith)
     ∙ all-fails _ (a .count) (at .loop .j) (c .before .before .loop-test .taken)
     (sym (c .before .gen-fits .ensures) ∙ not-true _ (c .if1 .taken)))
-
-add-j : tie.Need-add-j Inv-loop μ-loop
-add-j c = search needs
-
-loop-less : tie.Need-loop-less Inv-loop μ-loop
-loop-less c = search needs
 
 loop-again : tie.Need-loop-again Inv-loop μ-loop
 loop-again c =
@@ -71,12 +53,12 @@ all-gens-fit-spec =
     Inv-loop
     μ-loop
     loop-holds
-    add-gen-fits
-    mul-gen-fits
-    array-read-gen-fits
-    gen-fits-requires
+    (λ c. search needs)
+    (λ c. search needs)
+    (λ c. search needs)
+    (λ c κs. search needs)
     returns
-    add-j
-    loop-less
+    (λ c. search needs)
+    (λ c. search needs)
     loop-again
     returns-2)

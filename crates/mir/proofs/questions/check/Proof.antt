@@ -14,9 +14,6 @@ returns-2 : tie.Need-returns-2
 unfolding fewRegisters fewArgs refusal
 returns-2 c = simp (le-leb _ _ (c .before .before .if1 .left), lt-leb _ _ (c .if2 .taken))
 
-well-sized-requires : tie.Need-well-sized-requires
-well-sized-requires c κs = search needs
-
 returns-3 : tie.Need-returns-3
 unfolding fewRegisters fewArgs refusal
 returns-3 c =
@@ -48,7 +45,7 @@ check-spec =
     (tie.spec
     returns
     returns-2
-    well-sized-requires
+    (λ c κs. search needs)
     returns-3
     returns-4
     check-records-requires

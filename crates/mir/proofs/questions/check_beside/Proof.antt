@@ -10,9 +10,6 @@ returns : tie.Need-returns
 unfolding fewRegisters refusalBeside
 returns c = simp (lt-leb _ _ (c .if1 .taken))
 
-well-sized-requires : tie.Need-well-sized-requires
-well-sized-requires c κs = search needs
-
 returns-2 : tie.Need-returns-2
 unfolding fewRegisters refusalBeside
 returns-2 c = simp (le-leb _ _ (c .before .before .if1 .left), sym (c .before .well-sized .ensures) ∙ not-true _ (c .if2 .taken))
@@ -28,4 +25,4 @@ returns-3 c =
 
 pub check-beside-spec : {M : Type 1} → statement M
 check-beside-spec =
-    tie.close (tie.spec returns well-sized-requires returns-2 check-shapes-requires returns-3)
+    tie.close (tie.spec returns (λ c κs. search needs) returns-2 check-shapes-requires returns-3)

@@ -11,16 +11,10 @@ use borrow.Author.Needs.{needs}
 use Rattle.mir.proofs.questions.check_record.Statement.{statement}
 use Rattle.mir.proofs.questions.check_record.Tie as tie
 
-check-shape-requires : tie.Need-check-shape-requires
-check-shape-requires c κs = search needs
-
 returns : tie.Need-returns
 returns c =
     let a = c .before .before .before .args in
     shape-stops (now (a .table)) (a .count-regs) (a .rec) (a .regs) _ (c .before .check-shape .ensures) (c .if1 .taken)
-
-partner-fits-requires : tie.Need-partner-fits-requires
-partner-fits-requires c κs = search needs
 
 returns-2 : tie.Need-returns-2
 returns-2 c =
@@ -50,9 +44,9 @@ pub check-record-spec : {M : Type 1} → statement M
 check-record-spec =
     tie.close
     (tie.spec
-    check-shape-requires
+    (λ c κs. search needs)
     returns
-    partner-fits-requires
+    (λ c κs. search needs)
     returns-2
     check-sources-requires
     returns-3)

@@ -39,9 +39,6 @@ loop-holds : tie.Need-loop-holds Inv-loop μ-loop
 unfolding firstRefusal regsTo staticsTo
 loop-holds c = (search needs, refl, refl, refl)
 
-record-at-requires : tie.Need-record-at-requires Inv-loop μ-loop
-record-at-requires c κs = omega arith
-
 check-record-requires : tie.Need-check-record-requires Inv-loop μ-loop
 check-record-requires c κs = c .before .before .before .before .before .pre .0
 
@@ -72,9 +69,6 @@ rename-requires c κs =
       omega (arith, well-sized _ _ (s .pre .1), statics-two (now (a .list)) (at .loop .i)),
     )
 
-count-statics-requires : tie.Need-count-statics-requires Inv-loop μ-loop
-count-statics-requires c κs = search needs
-
 add-statics : tie.Need-add-statics Inv-loop μ-loop
 add-statics c =
     let r = c .before .before .before in
@@ -82,12 +76,6 @@ add-statics c =
     let s = at .before .before .before in
     rw (c .count-statics .ensures)
     (omega (arith, well-sized _ _ (s .pre .1), statics-two (now (s .args .list)) (at .loop .i), gens-two (r .before .record-at .result)))
-
-add-i : tie.Need-add-i Inv-loop μ-loop
-add-i c = search needs
-
-loop-less : tie.Need-loop-less Inv-loop μ-loop
-loop-less c = search needs
 
 loop-again : tie.Need-loop-again Inv-loop μ-loop
 unfolding regsTo staticsTo
@@ -117,14 +105,14 @@ check-records-spec =
     Inv-loop
     μ-loop
     loop-holds
-    record-at-requires
+    (λ c κs. omega arith)
     check-record-requires
     cast-t14
     returns
     rename-requires
-    count-statics-requires
+    (λ c κs. search needs)
     add-statics
-    add-i
-    loop-less
+    (λ c. search needs)
+    (λ c. search needs)
     loop-again
     returns-2)

@@ -6,15 +6,9 @@ use borrow.Author.Needs.{needs}
 use Rattle.mir.proofs.questions.check_shape.Statement.{statement}
 use Rattle.mir.proofs.questions.check_shape.Tie as tie
 
-array-read-if1 : tie.Need-array-read-if1
-array-read-if1 c = search needs
-
 returns : tie.Need-returns
 unfolding shapeNo knownKind
 returns c = simp (lt-leb _ _ (c .if1 .taken))
-
-fields-fit-requires : tie.Need-fields-fit-requires
-fields-fit-requires c κs = search needs
 
 returns-2 : tie.Need-returns-2
 unfolding shapeNo knownKind
@@ -23,9 +17,6 @@ returns-2 c =
       le-leb _ _ (c .before .before .if1 .left),
       sym (c .before .fields-fit .ensures) ∙ not-true _ (c .if2 .taken),
     )
-
-gens-fit-requires : tie.Need-gens-fit-requires
-gens-fit-requires c κs = search needs
 
 returns-3 : tie.Need-returns-3
 unfolding shapeNo knownKind
@@ -51,10 +42,10 @@ pub check-shape-spec : {M : Type 1} → statement M
 check-shape-spec =
     tie.close
     (tie.spec
-    array-read-if1
+    (λ c. search needs)
     returns
-    fields-fit-requires
+    (λ c κs. search needs)
     returns-2
-    gens-fit-requires
+    (λ c κs. search needs)
     returns-3
     returns-4)

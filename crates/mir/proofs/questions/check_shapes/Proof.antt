@@ -25,12 +25,6 @@ loop-holds : tie.Need-loop-holds Inv-loop μ-loop
 unfolding firstRefusal
 loop-holds c = (search needs, refl)
 
-record-at-requires : tie.Need-record-at-requires Inv-loop μ-loop
-record-at-requires c κs = omega arith
-
-check-shape-requires : tie.Need-check-shape-requires Inv-loop μ-loop
-check-shape-requires c κs = search needs
-
 cast-t10 : tie.Need-cast-t10 Inv-loop μ-loop
 cast-t10 c =
     let s = c .before .before .before .before .before .before .before in
@@ -46,12 +40,6 @@ returns c =
     ap (λ (k : ℕ). Refused k (at .loop .i)) e
     ∙ sym (refusal-stops (shapeBy (now (a .table)) (a .count-regs) (now (a .list))) _ (at .loop .i) (r .before .before .loop-test .taken) (at .loop .inv .1)
     (λ z. c .if1 .taken (e ∙ z)))
-
-add-i : tie.Need-add-i Inv-loop μ-loop
-add-i c = search needs
-
-loop-less : tie.Need-loop-less Inv-loop μ-loop
-loop-less c = search needs
 
 loop-again : tie.Need-loop-again Inv-loop μ-loop
 loop-again c =
@@ -75,11 +63,11 @@ check-shapes-spec =
     Inv-loop
     μ-loop
     loop-holds
-    record-at-requires
-    check-shape-requires
+    (λ c κs. omega arith)
+    (λ c κs. search needs)
     cast-t10
     returns
-    add-i
-    loop-less
+    (λ c. search needs)
+    (λ c. search needs)
     loop-again
     returns-2)

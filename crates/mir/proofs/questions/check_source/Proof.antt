@@ -13,17 +13,8 @@ use Rattle.mir.proofs.questions.check_source.Tie as tie
 returns : tie.Need-returns
 returns c = simp (le-ltb _ _ (c .if1 .taken))
 
-mul-current : tie.Need-mul-current
-mul-current c = search needs
-
 array-copy-out-current : tie.Need-array-copy-out-current
 array-copy-out-current c = c .before .pre (c .if1 .left)
-
-enum-told : tie.Need-enum-told
-enum-told c = search needs
-
-enum-told-2 : tie.Need-enum-told-2
-enum-told-2 c = search needs
 
 returns-2 : tie.Need-returns-2
 returns-2 c =
@@ -44,4 +35,4 @@ returns-3 c =
 pub check-source-spec : {M : Type 1} → statement M
 check-source-spec =
     tie.close
-    (tie.spec returns mul-current array-copy-out-current enum-told enum-told-2 returns-2 returns-3)
+    (tie.spec returns (λ c. search needs) array-copy-out-current (λ c. search needs) (λ c. search needs) returns-2 returns-3)

@@ -23,15 +23,6 @@ abbrev μ-loop : tie.MeasureT-loop
 loop-holds : tie.Need-loop-holds Inv-loop μ-loop
 loop-holds c = (search needs, all-none _)
 
-add-check-source : tie.Need-add-check-source Inv-loop μ-loop
-add-check-source c = search needs
-
-mul-check-source : tie.Need-mul-check-source Inv-loop μ-loop
-mul-check-source c = search needs
-
-array-read-check-source : tie.Need-array-read-check-source Inv-loop μ-loop
-array-read-check-source c = search needs
-
 check-source-requires : tie.Need-check-source-requires Inv-loop μ-loop
 check-source-requires c κs =
     let s = c .before .before in
@@ -53,12 +44,6 @@ returns c =
     ∙ ap (λ (b : Bool). cond b 0 9) (f
     ∙ sym (all-words (named (a .regs)) (a .t2) (a .from) (a .count) (omega arith)
     ∙ all-fails _ (a .count) (at .loop .j) (c .before .before .loop-test .taken) f))
-
-add-j : tie.Need-add-j Inv-loop μ-loop
-add-j c = search needs
-
-loop-less : tie.Need-loop-less Inv-loop μ-loop
-loop-less c = search needs
 
 loop-again : tie.Need-loop-again Inv-loop μ-loop
 loop-again c =
@@ -82,12 +67,12 @@ check-source-words-spec =
     Inv-loop
     μ-loop
     loop-holds
-    add-check-source
-    mul-check-source
-    array-read-check-source
+    (λ c. search needs)
+    (λ c. search needs)
+    (λ c. search needs)
     check-source-requires
     returns
-    add-j
-    loop-less
+    (λ c. search needs)
+    (λ c. search needs)
     loop-again
     returns-2)

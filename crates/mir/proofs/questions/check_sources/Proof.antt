@@ -15,12 +15,6 @@ use borrow.Author.Needs.{needs}
 use Rattle.mir.proofs.questions.check_sources.Statement.{statement}
 use Rattle.mir.proofs.questions.check_sources.Tie as tie
 
-array-read-shape-of : tie.Need-array-read-shape-of
-array-read-shape-of c = search needs
-
-shape-of-requires : tie.Need-shape-of-requires
-shape-of-requires c κs = search needs
-
 add-from : tie.Need-add-from
 add-from c = rw (c .before .shape-of .ensures) (omega (arith, regs-in-record (getD (c .before .before .args .t2) 0 0)))
 
@@ -41,4 +35,4 @@ returns c =
 pub check-sources-spec : {M : Type 1} → statement M
 check-sources-spec =
     tie.close
-    (tie.spec array-read-shape-of shape-of-requires add-from check-source-words-requires returns)
+    (tie.spec (λ c. search needs) (λ c κs. search needs) add-from check-source-words-requires returns)

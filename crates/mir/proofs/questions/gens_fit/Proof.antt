@@ -12,12 +12,6 @@ use borrow.Author.Needs.{needs}
 use Rattle.mir.proofs.questions.gens_fit.Statement.{statement}
 use Rattle.mir.proofs.questions.gens_fit.Tie as tie
 
-array-read-shape-of : tie.Need-array-read-shape-of
-array-read-shape-of c = search needs
-
-shape-of-requires : tie.Need-shape-of-requires
-shape-of-requires c κs = search needs
-
 add-all-gens-fit : tie.Need-add-all-gens-fit
 add-all-gens-fit c = rw (c .before .shape-of .ensures) (omega (arith, regs-in-record (getD (c .before .before .args .t1) 0 0)))
 
@@ -34,4 +28,4 @@ returns c =
 pub gens-fit-spec : {M : Type 1} → statement M
 gens-fit-spec =
     tie.close
-    (tie.spec array-read-shape-of shape-of-requires add-all-gens-fit all-gens-fit-requires returns)
+    (tie.spec (λ c. search needs) (λ c κs. search needs) add-all-gens-fit all-gens-fit-requires returns)

@@ -19,27 +19,12 @@ Inv-loop table first count from n j₀ j = (j ≤ count) × (allBelow j (spaceFi
 abbrev μ-loop : tie.MeasureT-loop
 μ-loop table first count from n j₀ j = count - j
 
-add-if1 : tie.Need-add-if1 Inv-loop μ-loop
-add-if1 c = search needs
-
 returns : tie.Need-returns Inv-loop μ-loop
 unfolding pairsFit
 returns c = simp (lt-leb _ _ (c .if1 .taken))
 
 loop-holds : tie.Need-loop-holds Inv-loop μ-loop
 loop-holds c = (search needs, all-none _)
-
-add-if2 : tie.Need-add-if2 Inv-loop μ-loop
-add-if2 c = search needs
-
-mul-if2 : tie.Need-mul-if2 Inv-loop μ-loop
-mul-if2 c = search needs
-
-mul-if2-2 : tie.Need-mul-if2-2 Inv-loop μ-loop
-mul-if2-2 c = search needs
-
-shared-slice-read-if2 : tie.Need-shared-slice-read-if2 Inv-loop μ-loop
-shared-slice-read-if2 c = search needs
 
 returns-2 : tie.Need-returns-2 Inv-loop μ-loop
 unfolding pairsFit
@@ -51,12 +36,6 @@ returns-2 c =
       all-fails (spaceFits (now (a .table)) (a .first)) (a .count) (at .loop .j) (c .before .before .loop-test .taken)
           (lt-leb _ _ (c .if2 .taken)),
     )
-
-add-j : tie.Need-add-j Inv-loop μ-loop
-add-j c = search needs
-
-loop-less : tie.Need-loop-less Inv-loop μ-loop
-loop-less c = search needs
 
 loop-again : tie.Need-loop-again Inv-loop μ-loop
 loop-again c =
@@ -77,15 +56,15 @@ pairs-fit-spec =
     (tie.spec
     Inv-loop
     μ-loop
-    add-if1
+    (λ c. search needs)
     returns
     loop-holds
-    add-if2
-    mul-if2
-    mul-if2-2
-    shared-slice-read-if2
+    (λ c. search needs)
+    (λ c. search needs)
+    (λ c. search needs)
+    (λ c. search needs)
     returns-2
-    add-j
-    loop-less
+    (λ c. search needs)
+    (λ c. search needs)
     loop-again
     returns-3)

@@ -8,12 +8,6 @@ use borrow.Author.Needs.{needs}
 use Rattle.mir.proofs.questions.partner_fits.Statement.{statement}
 use Rattle.mir.proofs.questions.partner_fits.Tie as tie
 
-array-read-kind : tie.Need-array-read-kind
-array-read-kind c = search needs
-
-array-read-result : tie.Need-array-read-result
-array-read-result c = search needs
-
 returns : tie.Need-returns
 unfolding partnerFits
 returns c =
@@ -31,4 +25,4 @@ returns-3 c = simp (le-leb _ _ (c .before .if1 .left), lt-leb _ _ (c .if2 .left)
 
 pub partner-fits-spec : {M : Type 1} → statement M
 partner-fits-spec =
-    tie.close (tie.spec array-read-kind array-read-result returns returns-2 returns-3)
+    tie.close (tie.spec (λ c. search needs) (λ c. search needs) returns returns-2 returns-3)

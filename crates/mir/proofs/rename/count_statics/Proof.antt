@@ -10,27 +10,6 @@ use borrow.Author.Needs.{needs}
 use Rattle.mir.proofs.rename.count_statics.Statement.{statement}
 use Rattle.mir.proofs.rename.count_statics.Tie as tie
 
-dests-of-requires : tie.Need-dests-of-requires
-dests-of-requires c κs = search needs
-
-enum-told : tie.Need-enum-told
-enum-told c = search needs
-
-enum-known-x : tie.Need-enum-known-x
-enum-known-x c = search needs
-
-count-static-requires : tie.Need-count-static-requires
-count-static-requires c κs = search needs
-
-enum-known-x-2 : tie.Need-enum-known-x-2
-enum-known-x-2 c = search needs
-
-count-static-requires-2 : tie.Need-count-static-requires-2
-count-static-requires-2 c κs = search needs
-
-count-static-requires-3 : tie.Need-count-static-requires-3
-count-static-requires-3 c κs = search needs
-
 add-result : tie.Need-add-result
 add-result c =
     let v = c .before .before .before .x2 .given .0 in
@@ -56,13 +35,13 @@ pub count-statics-spec : {M : Type 1} → statement M
 count-statics-spec =
     tie.close
     (tie.spec
-    dests-of-requires
-    enum-told
-    enum-known-x
-    count-static-requires
-    enum-known-x-2
-    count-static-requires-2
-    count-static-requires-3
+    (λ c κs. search needs)
+    (λ c. search needs)
+    (λ c. search needs)
+    (λ c κs. search needs)
+    (λ c. search needs)
+    (λ c κs. search needs)
+    (λ c κs. search needs)
     add-result
     returns
     returns-2

@@ -4,9 +4,6 @@ use borrow.Author.Needs.{needs}
 use Rattle.mir.proofs.rename.produce.Statement.{statement}
 use Rattle.mir.proofs.rename.produce.Tie as tie
 
-mul-out : tie.Need-mul-out
-mul-out c = search needs
-
 array-set-from-out : tie.Need-array-set-from-out
 array-set-from-out c = c .before .pre (c .if1 .taken)
 
@@ -17,4 +14,4 @@ returns-2 : tie.Need-returns-2
 returns-2 c = simp (le-ltb _ _ (c .if1 .left))
 
 pub produce-spec : {M : Type 1} → statement M
-produce-spec = tie.close (tie.spec mul-out array-set-from-out returns returns-2)
+produce-spec = tie.close (tie.spec (λ c. search needs) array-set-from-out returns returns-2)

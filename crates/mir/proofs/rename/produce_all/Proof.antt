@@ -12,15 +12,6 @@ use borrow.Author.Needs.{needs}
 use Rattle.mir.proofs.rename.produce_all.Statement.{statement}
 use Rattle.mir.proofs.rename.produce_all.Tie as tie
 
-dests-of-requires : tie.Need-dests-of-requires
-dests-of-requires c κs = search needs
-
-enum-told : tie.Need-enum-told
-enum-told c = search needs
-
-enum-known-x : tie.Need-enum-known-x
-enum-known-x c = search needs
-
 produce-requires : tie.Need-produce-requires
 produce-requires c κs =
     let x = c .before in
@@ -28,18 +19,12 @@ produce-requires c κs =
     fits-one maxRegs (x .x .given .0 .0)
     (rw (sym (x .before .before .dests-of .ensures) ∙ ap listed (x .x .given .1)) at (gens-fit-both maxRegs (s .args .rec) (s .pre .0) .0))
 
-enum-known-x-2 : tie.Need-enum-known-x-2
-enum-known-x-2 c = search needs
-
 produce-requires-2 : tie.Need-produce-requires-2
 produce-requires-2 c κs =
     let x = c .before in
     let s = x .before .before .before in
     fits-two maxRegs (x .x2 .given .0 .0) (x .x2 .given .0 .1 .0)
     (rw (sym (x .before .before .dests-of .ensures) ∙ ap listed (x .x2 .given .1)) at (gens-fit-both maxRegs (s .args .rec) (s .pre .0) .0)) .0
-
-count-static-requires : tie.Need-count-static-requires
-count-static-requires c κs = search needs
 
 add-produce : tie.Need-add-produce
 add-produce c =
@@ -73,13 +58,13 @@ pub produce-all-spec : {M : Type 1} → statement M
 produce-all-spec =
     tie.close
     (tie.spec
-    dests-of-requires
-    enum-told
-    enum-known-x
+    (λ c κs. search needs)
+    (λ c. search needs)
+    (λ c. search needs)
     produce-requires
-    enum-known-x-2
+    (λ c. search needs)
     produce-requires-2
-    count-static-requires
+    (λ c κs. search needs)
     add-produce
     produce-requires-3
     returns

@@ -10,12 +10,6 @@ use borrow.Author.Needs.{needs}
 use Rattle.mir.proofs.rename.rename.Statement.{statement}
 use Rattle.mir.proofs.rename.rename.Tie as tie
 
-array-read-kind : tie.Need-array-read-kind
-array-read-kind c = search needs
-
-produce-all-requires : tie.Need-produce-all-requires
-produce-all-requires c κs = search needs
-
 returns : tie.Need-returns
 unfolding renamed
 returns c =
@@ -29,4 +23,4 @@ returns-2 c =
     simp (ne-eqb _ _ (λ e. r (inl e)), ne-eqb _ _ (λ e. r (inr e))) (c .produce-all .ensures)
 
 pub rename-spec : {M : Type 1} → statement M
-rename-spec = tie.close (tie.spec array-read-kind produce-all-requires returns returns-2)
+rename-spec = tie.close (tie.spec (λ c. search needs) (λ c κs. search needs) returns returns-2)

@@ -9,12 +9,6 @@ use borrow.Author.Needs.{needs}
 use Rattle.mir.proofs.shape.dests_of.Statement.{statement}
 use Rattle.mir.proofs.shape.dests_of.Tie as tie
 
-array-read-shape-of : tie.Need-array-read-shape-of
-array-read-shape-of c = search needs
-
-shape-of-requires : tie.Need-shape-of-requires
-shape-of-requires c κs = search needs
-
 returns : tie.Need-returns
 returns c =
     let s = c .before .before in
@@ -92,8 +86,8 @@ pub dests-of-spec : {M : Type 1} → statement M
 dests-of-spec =
     tie.close
     (tie.spec
-    array-read-shape-of
-    shape-of-requires
+    (λ c. search needs)
+    (λ c κs. search needs)
     returns
     mul-t10
     array-read-t13

@@ -9,69 +9,6 @@ use Rattle.mir.proofs.Shapes.{bare-first, bare-past, after}
 use Rattle.mir.proofs.shape.shape_of.Statement.{statement}
 use Rattle.mir.proofs.shape.shape_of.Tie as tie
 
-of-requires : tie.Need-of-requires
-of-requires c κs = search needs
-
-of-requires-2 : tie.Need-of-requires-2
-of-requires-2 c κs = search needs
-
-of-requires-3 : tie.Need-of-requires-3
-of-requires-3 c κs = search needs
-
-of-requires-4 : tie.Need-of-requires-4
-of-requires-4 c κs = search needs
-
-of-requires-5 : tie.Need-of-requires-5
-of-requires-5 c κs = search needs
-
-of-requires-6 : tie.Need-of-requires-6
-of-requires-6 c κs = search needs
-
-of-requires-7 : tie.Need-of-requires-7
-of-requires-7 c κs = search needs
-
-of-requires-8 : tie.Need-of-requires-8
-of-requires-8 c κs = search needs
-
-of-requires-9 : tie.Need-of-requires-9
-of-requires-9 c κs = search needs
-
-of-requires-10 : tie.Need-of-requires-10
-of-requires-10 c κs = search needs
-
-of-requires-11 : tie.Need-of-requires-11
-of-requires-11 c κs = search needs
-
-of-requires-12 : tie.Need-of-requires-12
-of-requires-12 c κs = search needs
-
-of-requires-13 : tie.Need-of-requires-13
-of-requires-13 c κs = search needs
-
-of-requires-14 : tie.Need-of-requires-14
-of-requires-14 c κs = search needs
-
-of-requires-15 : tie.Need-of-requires-15
-of-requires-15 c κs = search needs
-
-of-requires-16 : tie.Need-of-requires-16
-of-requires-16 c κs = search needs
-
-of-requires-17 : tie.Need-of-requires-17
-of-requires-17 c κs = search needs
-
-of-requires-18 : tie.Need-of-requires-18
-of-requires-18 c κs = search needs
-
-of-requires-19 : tie.Need-of-requires-19
-of-requires-19 c κs = search needs
-
-of-requires-20 : tie.Need-of-requires-20
-of-requires-20 c κs = search needs
-
-of-requires-21 : tie.Need-of-requires-21
-of-requires-21 c κs = search needs
-
 returns : tie.Need-returns
 unfolding shapeOf
 returns c = rw (c .before .match .keys1) (c .of .ensures)
@@ -161,4 +98,4 @@ returns-21 c =
     c .of21 .ensures ∙ bare-past k (after (after (after (after (after (after (after (after (after (after (after (after (after (after (after (after (after (after (after h (r .0 .0 .0 .0 .0 .0 .0 .0 .0 .0 .0 .0 .0 .0 .0 .0 .0 .0 .1)) (r .0 .0 .0 .0 .0 .0 .0 .0 .0 .0 .0 .0 .0 .0 .0 .0 .0 .1)) (r .0 .0 .0 .0 .0 .0 .0 .0 .0 .0 .0 .0 .0 .0 .0 .0 .1)) (r .0 .0 .0 .0 .0 .0 .0 .0 .0 .0 .0 .0 .0 .0 .0 .1)) (r .0 .0 .0 .0 .0 .0 .0 .0 .0 .0 .0 .0 .0 .0 .1)) (r .0 .0 .0 .0 .0 .0 .0 .0 .0 .0 .0 .0 .0 .1)) (r .0 .0 .0 .0 .0 .0 .0 .0 .0 .0 .0 .0 .1)) (r .0 .0 .0 .0 .0 .0 .0 .0 .0 .0 .0 .1)) (r .0 .0 .0 .0 .0 .0 .0 .0 .0 .0 .1)) (r .0 .0 .0 .0 .0 .0 .0 .0 .0 .1)) (r .0 .0 .0 .0 .0 .0 .0 .0 .1)) (r .0 .0 .0 .0 .0 .0 .0 .1)) (r .0 .0 .0 .0 .0 .0 .1)) (r .0 .0 .0 .0 .0 .1)) (r .0 .0 .0 .0 .1)) (r .0 .0 .0 .1)) (r .0 .0 .1)) (r .0 .1)) (r .1))
 
 pub shape-of-spec : {M : Type 1} → statement M
-shape-of-spec = tie.close (tie.spec of-requires of-requires-2 of-requires-3 of-requires-4 of-requires-5 of-requires-6 of-requires-7 of-requires-8 of-requires-9 of-requires-10 of-requires-11 of-requires-12 of-requires-13 of-requires-14 of-requires-15 of-requires-16 of-requires-17 of-requires-18 of-requires-19 of-requires-20 of-requires-21 returns returns-2 returns-3 returns-4 returns-5 returns-6 returns-7 returns-8 returns-9 returns-10 returns-11 returns-12 returns-13 returns-14 returns-15 returns-16 returns-17 returns-18 returns-19 returns-20 returns-21)
+shape-of-spec = tie.close (tie.spec (λ c κs. search needs) (λ c κs. search needs) (λ c κs. search needs) (λ c κs. search needs) (λ c κs. search needs) (λ c κs. search needs) (λ c κs. search needs) (λ c κs. search needs) (λ c κs. search needs) (λ c κs. search needs) (λ c κs. search needs) (λ c κs. search needs) (λ c κs. search needs) (λ c κs. search needs) (λ c κs. search needs) (λ c κs. search needs) (λ c κs. search needs) (λ c κs. search needs) (λ c κs. search needs) (λ c κs. search needs) (λ c κs. search needs) returns returns-2 returns-3 returns-4 returns-5 returns-6 returns-7 returns-8 returns-9 returns-10 returns-11 returns-12 returns-13 returns-14 returns-15 returns-16 returns-17 returns-18 returns-19 returns-20 returns-21)

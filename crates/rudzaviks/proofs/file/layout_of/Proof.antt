@@ -14,35 +14,11 @@ use Rattle.rudzaviks.proofs.file.layout_of.Tie as tie
 returns : tie.Need-returns
 returns c = sym (layout-bad (now (c .before .before .args .file)) (λ p r l. omega arith))
 
-word-at-requires : tie.Need-word-at-requires
-word-at-requires c κs = search needs
-
-cast-pairs : tie.Need-cast-pairs
-cast-pairs c = search needs
-
 returns-2 : tie.Need-returns-2
 returns-2 c = sym (layout-bad (now (c .before .before .before .before .args .file)) (λ p r l. omega arith))
 
-mul-at : tie.Need-mul-at
-mul-at c = search needs
-
-add-at : tie.Need-add-at
-add-at c = search needs
-
-add-if3 : tie.Need-add-if3
-add-if3 c = search needs
-
-mul-if3 : tie.Need-mul-if3
-mul-if3 c = search needs
-
 returns-3 : tie.Need-returns-3
 returns-3 c = sym (layout-bad (now (c .before .before .before .before .before .args .file)) (λ p r l. omega arith))
-
-word-at-requires-2 : tie.Need-word-at-requires-2
-word-at-requires-2 c κs = search needs
-
-cast-records : tie.Need-cast-records
-cast-records c = search needs
 
 -- the second word read is the count of records
 records : (w : tie.After-word-at2) → w .word-at2 .result ≡ recordCount (now (w .before .before .before .before .before .before .args .file))
@@ -50,18 +26,6 @@ records w = w .word-at2 .ensures ∙ ap (λ p. wordIn (now (w .before .before .b
 
 returns-4 : tie.Need-returns-4
 returns-4 c = sym (layout-bad (now (c .before .before .before .before .before .before .before .args .file)) (λ p r l. omega (arith, records (c .before))))
-
-add-if5 : tie.Need-add-if5
-add-if5 c = search needs
-
-mul-if5 : tie.Need-mul-if5
-mul-if5 c = search needs
-
-add-if5-2 : tie.Need-add-if5-2
-add-if5-2 c = search needs
-
-mul-if5-2 : tie.Need-mul-if5-2
-mul-if5-2 c = search needs
 
 returns-5 : tie.Need-returns-5
 returns-5 c = sym (layout-bad (now (c .before .before .before .before .before .before .before .before .args .file)) (λ p r l. omega (arith, records (c .before .before))))
@@ -79,20 +43,20 @@ layout-of-spec =
     tie.close
     (tie.spec
     returns
-    word-at-requires
-    cast-pairs
+    (λ c κs. search needs)
+    (λ c. search needs)
     returns-2
-    mul-at
-    add-at
-    add-if3
-    mul-if3
+    (λ c. search needs)
+    (λ c. search needs)
+    (λ c. search needs)
+    (λ c. search needs)
     returns-3
-    word-at-requires-2
-    cast-records
+    (λ c κs. search needs)
+    (λ c. search needs)
     returns-4
-    add-if5
-    mul-if5
-    add-if5-2
-    mul-if5-2
+    (λ c. search needs)
+    (λ c. search needs)
+    (λ c. search needs)
+    (λ c. search needs)
     returns-5
     returns-6)

@@ -8,20 +8,8 @@ use borrow.Author.Needs.{needs}
 use Rattle.rudzaviks.proofs.file.word_at.Statement.{statement}
 use Rattle.rudzaviks.proofs.file.word_at.Tie as tie
 
-mul-p : tie.Need-mul-p
-mul-p c = search needs
-
-shared-slice-read-result : tie.Need-shared-slice-read-result
-shared-slice-read-result c = search needs
-
 cast-result : tie.Need-cast-result
 cast-result c = omega (arith, c .shared-slice-known .given (c .before .args .k * 4))
-
-add-result : tie.Need-add-result
-add-result c = search needs
-
-shared-slice-read-result-2 : tie.Need-shared-slice-read-result-2
-shared-slice-read-result-2 c = search needs
 
 cast-result-2 : tie.Need-cast-result-2
 cast-result-2 c = omega (arith, c .shared-slice-known2 .given (c .before .before .args .k * 4 + 1))
@@ -32,12 +20,6 @@ mul-result c = omega (arith, c .shared-slice-known2 .given (c .before .before .a
 add-result-2 : tie.Need-add-result-2
 add-result-2 c = omega (arith, c .before .shared-slice-known .given (c .before .before .args .k * 4), c .shared-slice-known2 .given (c .before .before .args .k * 4 + 1))
 
-add-result-3 : tie.Need-add-result-3
-add-result-3 c = search needs
-
-shared-slice-read-result-3 : tie.Need-shared-slice-read-result-3
-shared-slice-read-result-3 c = search needs
-
 cast-result-3 : tie.Need-cast-result-3
 cast-result-3 c = omega (arith, c .shared-slice-known3 .given (c .before .before .before .args .k * 4 + 2))
 
@@ -46,12 +28,6 @@ mul-result-2 c = omega (arith, c .shared-slice-known3 .given (c .before .before 
 
 add-result-4 : tie.Need-add-result-4
 add-result-4 c = omega (arith, c .before .before .shared-slice-known .given (c .before .before .before .args .k * 4), c .before .shared-slice-known2 .given (c .before .before .before .args .k * 4 + 1), c .shared-slice-known3 .given (c .before .before .before .args .k * 4 + 2))
-
-add-result-5 : tie.Need-add-result-5
-add-result-5 c = search needs
-
-shared-slice-read-result-4 : tie.Need-shared-slice-read-result-4
-shared-slice-read-result-4 c = search needs
 
 cast-result-4 : tie.Need-cast-result-4
 cast-result-4 c = omega (arith, c .shared-slice-known4 .given (c .before .before .before .before .args .k * 4 + 3))
@@ -70,21 +46,21 @@ pub word-at-spec : {M : Type 1} → statement M
 word-at-spec =
     tie.close
     (tie.spec
-    mul-p
-    shared-slice-read-result
+    (λ c. search needs)
+    (λ c. search needs)
     cast-result
-    add-result
-    shared-slice-read-result-2
+    (λ c. search needs)
+    (λ c. search needs)
     cast-result-2
     mul-result
     add-result-2
-    add-result-3
-    shared-slice-read-result-3
+    (λ c. search needs)
+    (λ c. search needs)
     cast-result-3
     mul-result-2
     add-result-4
-    add-result-5
-    shared-slice-read-result-4
+    (λ c. search needs)
+    (λ c. search needs)
     cast-result-4
     mul-result-3
     add-result-6

@@ -29,9 +29,6 @@ same b =
     let len = taken-length (a .first) (a .words .now) (b .loop .j) (b .loop .inv .0) in
     ap length (b .loop .inv .1) ∙ (over-length (bytesOf (a .first ∷ take (b .loop .j) (a .words .now))) old (omega arith) ∙ e)
 
-put-word-requires : tie.Need-put-word-requires Inv-loop μ-loop
-put-word-requires c κs = search needs
-
 loop-holds : tie.Need-loop-holds Inv-loop μ-loop
 loop-holds c =
     let a = c .before .before .before .before .before .before .args in
@@ -39,26 +36,8 @@ loop-holds c =
     let e = bytes-first (a .first) out (a .out .now) (c .before .before .put-word .ensures) (omega arith) in
     (search needs, e ∙ (sym (over-over (bytesOf (a .first ∷ [])) (bytesOf (a .first ∷ [])) (a .out .now) (omega arith)) ∙ ap (over (bytesOf (a .first ∷ []))) (sym e)))
 
-mul-put-word : tie.Need-mul-put-word Inv-loop μ-loop
-mul-put-word c = search needs
-
-add-put-word : tie.Need-add-put-word Inv-loop μ-loop
-add-put-word c = search needs
-
-mul-put-word-2 : tie.Need-mul-put-word-2 Inv-loop μ-loop
-mul-put-word-2 c = search needs
-
-shared-slice-read-put-word : tie.Need-shared-slice-read-put-word Inv-loop μ-loop
-shared-slice-read-put-word c = search needs
-
 put-word-requires-2 : tie.Need-put-word-requires-2 Inv-loop μ-loop
 put-word-requires-2 c κs = omega (arith, same (c .before .before .before))
-
-add-j : tie.Need-add-j Inv-loop μ-loop
-add-j c = search needs
-
-loop-less : tie.Need-loop-less Inv-loop μ-loop
-loop-less c = search needs
 
 loop-again : tie.Need-loop-again Inv-loop μ-loop
 loop-again c =
@@ -88,15 +67,15 @@ write-words-spec =
     (tie.spec
     Inv-loop
     μ-loop
-    put-word-requires
+    (λ c κs. search needs)
     loop-holds
-    mul-put-word
-    add-put-word
-    mul-put-word-2
-    shared-slice-read-put-word
+    (λ c. search needs)
+    (λ c. search needs)
+    (λ c. search needs)
+    (λ c. search needs)
     put-word-requires-2
-    add-j
-    loop-less
+    (λ c. search needs)
+    (λ c. search needs)
     loop-again
     same-length
     returns)

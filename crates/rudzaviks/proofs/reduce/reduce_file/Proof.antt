@@ -16,12 +16,6 @@ use borrow.Author.Needs.{needs}
 use Rattle.rudzaviks.proofs.reduce.reduce_file.Statement.{statement}
 use Rattle.rudzaviks.proofs.reduce.reduce_file.Tie as tie
 
-layout-of-requires : tie.Need-layout-of-requires
-layout-of-requires c κs = search needs
-
-enum-known-pairs : tie.Need-enum-known-pairs
-enum-known-pairs c = search needs
-
 -- the layout that was found
 layout-in : (c : tie.After-known-told) → layoutOf (c .before .before .before .before .before .before .args .file .now) ≡ Counts (c .before .pairs .given .0 .0) (c .before .pairs .given .0 .1 .0)
 layout-in c = sym (c .before .before .before .layout-of .ensures) ∙ c .before .pairs .given .1
@@ -33,12 +27,6 @@ mul-room c =
 
 reduce-sections-requires : tie.Need-reduce-sections-requires
 reduce-sections-requires c κs = (layout-in (c .before), λ r. leb-true _ _ r)
-
-enum-told : tie.Need-enum-told
-enum-told c = search needs
-
-same-length : tie.Need-same-length
-same-length c = search needs
 
 returns : tie.Need-returns
 returns c =
@@ -61,11 +49,11 @@ pub reduce-file-spec : {M : Type 1} → statement M
 reduce-file-spec =
     tie.close
     (tie.spec
-    layout-of-requires
-    enum-known-pairs
+    (λ c κs. search needs)
+    (λ c. search needs)
     mul-room
     reduce-sections-requires
-    enum-told
-    same-length
+    (λ c. search needs)
+    (λ c. search needs)
     returns
     returns-2)

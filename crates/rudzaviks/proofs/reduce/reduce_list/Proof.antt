@@ -12,9 +12,6 @@ use borrow.Author.Needs.{needs}
 use Rattle.rudzaviks.proofs.reduce.reduce_list.Statement.{statement}
 use Rattle.rudzaviks.proofs.reduce.reduce_list.Tie as tie
 
-check-requires : tie.Need-check-requires
-check-requires c κs = search needs
-
 refused-requires : tie.Need-refused-requires
 refused-requires c κs =
     let a = c .before .before .before .before .before .args in
@@ -30,21 +27,6 @@ returns c =
       refused-held v (reduced (a .settings) (a .list .now) (a .table .now)) (a .out .now) r ∙ ap (λ w. left w (reduced (a .settings) (a .list .now) (a .table .now)) (a .out .now)) e,
     )
 
-slice-aggregate-optimize : tie.Need-slice-aggregate-optimize
-slice-aggregate-optimize c = search needs
-
-slice-aggregate-optimize-2 : tie.Need-slice-aggregate-optimize-2
-slice-aggregate-optimize-2 c = search needs
-
-slice-aggregate-optimize-3 : tie.Need-slice-aggregate-optimize-3
-slice-aggregate-optimize-3 c = search needs
-
-optimize-requires : tie.Need-optimize-requires
-optimize-requires c κs = search needs
-
-same-length : tie.Need-same-length
-same-length c = search needs
-
 returns-2 : tie.Need-returns-2
 returns-2 c =
     let a = c .before .before .before .before .before .before .before .before .before .before .before .before .before .before .args in
@@ -58,12 +40,12 @@ pub reduce-list-spec : {M : Type 1} → statement M
 reduce-list-spec =
     tie.close
     (tie.spec
-    check-requires
+    (λ c κs. search needs)
     refused-requires
     returns
-    slice-aggregate-optimize
-    slice-aggregate-optimize-2
-    slice-aggregate-optimize-3
-    optimize-requires
-    same-length
+    (λ c. search needs)
+    (λ c. search needs)
+    (λ c. search needs)
+    (λ c κs. search needs)
+    (λ c. search needs)
     returns-2)

@@ -30,9 +30,6 @@ mul-list-words c =
     let h = sections-in (c .before .before .before) in
     omega (arith, h .few-records)
 
-slice-aggregate-read-words : tie.Need-slice-aggregate-read-words
-slice-aggregate-read-words c = search needs
-
 read-words-requires : tie.Need-read-words-requires
 read-words-requires c κs =
     let h = sections-in (c .before .before .before .before) in
@@ -42,9 +39,6 @@ add-read-words : tie.Need-add-read-words
 add-read-words c =
     let h = sections-in (c .before .before .before .before .before .before) in
     omega (arith, h .few-pairs)
-
-slice-aggregate-read-words-2 : tie.Need-slice-aggregate-read-words-2
-slice-aggregate-read-words-2 c = search needs
 
 read-words-requires-2 : tie.Need-read-words-requires-2
 read-words-requires-2 c κs =
@@ -89,9 +83,6 @@ reduce-list-requires c κs =
     let h = sections-in (c .before .before .before .before .before .before .before .before .before .before .before .before) in
     (rw (list-count (c .before .before .before)) (omega (arith, h .few-records)), (rw (table-count (c .before .before .before .before .before .before)) (omega (arith, h .few-pairs)), λ r. rw (list-count (c .before .before .before)) (c .before .before .before .before .before .before .before .before .before .before .before .before .pre .1 r)))
 
-same-length : tie.Need-same-length
-same-length c = search needs
-
 returns : tie.Need-returns
 returns c =
     let a = c .before .before .before .before .before .before .before .before .before .before .before .before .before .before .before .args in
@@ -109,15 +100,15 @@ reduce-sections-spec =
     settings-at-requires
     mul-pair-words
     mul-list-words
-    slice-aggregate-read-words
+    (λ c. search needs)
     read-words-requires
     add-read-words
-    slice-aggregate-read-words-2
+    (λ c. search needs)
     read-words-requires-2
     array-share-prefix-list
     slice-aggregate-reduce-list
     array-share-prefix-table
     slice-aggregate-reduce-list-2
     reduce-list-requires
-    same-length
+    (λ c. search needs)
     returns)

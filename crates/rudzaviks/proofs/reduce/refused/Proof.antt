@@ -4,12 +4,6 @@ use borrow.Author.Needs.{needs}
 use Rattle.rudzaviks.proofs.reduce.refused.Statement.{statement}
 use Rattle.rudzaviks.proofs.reduce.refused.Tie as tie
 
-enum-told : tie.Need-enum-told
-enum-told c = search needs
-
-enum-known-verdict : tie.Need-enum-known-verdict
-enum-known-verdict c = search needs
-
 returns : tie.Need-returns
 returns c = absurd (c .before .before .pre (c .enum-told .given .1))
 
@@ -17,4 +11,4 @@ returns-2 : tie.Need-returns-2
 returns-2 c = rw (c .before .verdict .given .1) refl
 
 pub refused-spec : {M : Type 1} → statement M
-refused-spec = tie.close (tie.spec enum-told enum-known-verdict returns returns-2)
+refused-spec = tie.close (tie.spec (λ c. search needs) (λ c. search needs) returns returns-2)

@@ -5,24 +5,6 @@ use borrow.Author.Needs.{needs}
 use Rattle.rudzaviks.proofs.reduce.settings_at.Statement.{statement}
 use Rattle.rudzaviks.proofs.reduce.settings_at.Tie as tie
 
-word-at-requires : tie.Need-word-at-requires
-word-at-requires c κs = search needs
-
-word-at-requires-2 : tie.Need-word-at-requires-2
-word-at-requires-2 c κs = search needs
-
-word-at-requires-3 : tie.Need-word-at-requires-3
-word-at-requires-3 c κs = search needs
-
-word-at-requires-4 : tie.Need-word-at-requires-4
-word-at-requires-4 c κs = search needs
-
-word-at-requires-5 : tie.Need-word-at-requires-5
-word-at-requires-5 c κs = search needs
-
-settings-of-requires : tie.Need-settings-of-requires
-settings-of-requires c κs = search needs
-
 returns : tie.Need-returns
 unfolding settingsIn
 returns c = rw (c .settings-of .ensures, c .before .before .before .before .before .word-at .ensures, c .before .before .before .before .word-at2 .ensures, c .before .before .before .word-at3 .ensures, c .before .before .word-at4 .ensures, c .before .word-at5 .ensures) refl
@@ -31,10 +13,10 @@ pub settings-at-spec : {M : Type 1} → statement M
 settings-at-spec =
     tie.close
     (tie.spec
-    word-at-requires
-    word-at-requires-2
-    word-at-requires-3
-    word-at-requires-4
-    word-at-requires-5
-    settings-of-requires
+    (λ c κs. search needs)
+    (λ c κs. search needs)
+    (λ c κs. search needs)
+    (λ c κs. search needs)
+    (λ c κs. search needs)
+    (λ c κs. search needs)
     returns)

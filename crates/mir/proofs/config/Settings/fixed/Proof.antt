@@ -6,18 +6,6 @@ use Rattle.mir.proofs.config.Settings.fixed.Tie as tie
 use Rattle.mir.proofs.config.Settings.fixed.Reads as reads
 use Rattle.mir.proofs.config.Settings.fixed.Lts as lts
 
-cast-args : tie.Need-cast-args
-cast-args c = search needs
-
-mul-result : tie.Need-mul-result
-mul-result c = search needs
-
-add-result : tie.Need-add-result
-add-result c = search needs
-
-add-result-2 : tie.Need-add-result-2
-add-result-2 c = search needs
-
 returns : tie.Need-returns
 unfolding fixedMark
 returns c = rw (c .if1 .taken)
@@ -27,4 +15,4 @@ unfolding fixedMark
 returns-2 c = rw (c .if1 .left)
 
 pub fixed-spec : {M : Type 1} → statement M
-fixed-spec = tie.close (tie.spec cast-args mul-result add-result add-result-2 returns returns-2)
+fixed-spec = tie.close (tie.spec (λ c. search needs) (λ c. search needs) (λ c. search needs) (λ c. search needs) returns returns-2)
