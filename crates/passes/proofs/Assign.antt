@@ -1,11 +1,10 @@
--- One Gen destination, on the lists themselves: the simulation and the lives after its colour was given.
+-- One Gen destination, on the lists themselves: the simulation and the lives after its colour was assigned.
 -- The functions of `Sim` are the lists' entries; a store in a list changes one entry, and a list that grows keeps the
 -- entries that it had.
 use Prim.Native.Nat.{ℕ, suc, _≤_, _<_, max}
-use mathlib.Core.Bool.{Bool, true, false}
 use mathlib.Core.List.{List, [], _∷_, _++_}
-use mathlib.Core.Logic.{_⊎_, inl, inr, ⊎-elim}
-use mathlib.Core.Path.{_≡_, refl, sym, ap, _∙_}
+use mathlib.Core.Logic.{_⊎_, ⊎-elim}
+use mathlib.Core.Path.{_≡_, sym, ap, _∙_}
 use native.Mathlib.Nat.{le-max-left, le-max-right}
 use native.Mathlib.Omega.{arith}
 use lib.ListN.{length, getD, set, List·getD-append, List·getD-eq-default}
@@ -13,6 +12,7 @@ use lib.Seq.{getD-set-same, getD-set-other, getD-append-seam}
 use native.Mathlib.Decide.{decLt}
 use Rattle.mir.specs.declared.rename.Current.{Current}
 use Rattle.mir.specs.declared.rename.Current.the-variants.{Static, Unset}
+use Rattle.mir.proofs.Clash.{clash}
 use Rattle.passes.specs.declared.alloc.Alloc.{Alloc}
 use Rattle.passes.specs.declared.alloc.Held.{Held}
 use Rattle.passes.specs.declared.alloc.Held.the-variants.{Nothing, At}
@@ -20,7 +20,8 @@ use Rattle.passes.specs.declared.symbol.Loc.{Loc}
 use Rattle.passes.specs.Color.{alloc, colourAt, assign}
 use Rattle.passes.specs.Machine.{Word, State, write}
 use Rattle.passes.proofs.Create.{Names}
-use Rattle.passes.proofs.Sim.{Sim, Given, into-gen, upd, upd-at, upd-else, same-or}
+use Rattle.passes.proofs.Sim.{Sim, Assigned, into-gen}
+use Rattle.passes.proofs.Update.{upd, upd-at, upd-else, same-or}
 
 -- a register's static, a static's colour and end, and a colour's location, from the lists
 abbrev pub staticIn : List Current → ℕ → Current
@@ -32,10 +33,17 @@ numberIn l s = getD l s 0
 abbrev pub heldIn : List Alloc → ℕ → Held
 heldIn allocs c = colourAt allocs c .loc
 
--- a colour lives as long as the static of any register that has it
-unfoldable pub Live : ℕ → List ℕ → List Current → List ℕ → List Alloc → Type 0
-Live n E regs colours allocs =
-    (r t : ℕ) → staticIn regs r ≡ Static t → (numberIn E t ≤ colourAt allocs (numberIn colours t) .life) × (numberIn colours t < n)
+-- the simulation over the lists
+abbrev pub SimIn : (n : ℕ) → List ℕ → (ℕ → ℕ → Type 0) → ℕ → List Current → List ℕ → List Alloc → State → State → Type 0
+SimIn n E Seen i regs colours allocs A B = Sim n (numberIn E) Seen i (staticIn regs) (numberIn colours) (heldIn allocs) A B
+
+-- the colour of a register's static is one of the n, and lives as long as the static
+pub record Lives (n : ℕ) (E colours : List ℕ) (allocs : List Alloc) (t : ℕ) : Type 0 where
+  pub long : numberIn E t ≤ colourAt allocs (numberIn colours t) .life
+  pub below : numberIn colours t < n
+
+pub record Live (n : ℕ) (E : List ℕ) (regs : List Current) (colours : List ℕ) (allocs : List Alloc) : Type 0 where
+  pub of : (r t : ℕ) → staticIn regs r ≡ Static t → Lives n E colours allocs t
 
 -- a register that holds a static is in the list
 pub holds-inside : (regs : List Current) (r t : ℕ) → staticIn regs r ≡ Static t → r < length regs
@@ -46,115 +54,113 @@ holds-inside regs r t e = go (decLt r (length regs))
     go (no h) =
         let past : length regs ≤ r = omega (arith, h) in
         let d = List·getD-eq-default regs Unset past in
-        let z : _≡_ {A = ℕ} 0 1 = cc in
-        absurd (omega arith)
+        clash (cc)
 
-module _ (n j i : ℕ) (early : j ≤ suc i) (E : List ℕ) (Seen : ℕ → ℕ → Type 0) (regs : List Current) (colours : List ℕ) (allocs : List Alloc) (names : Names regs (length colours))
-    (live : Live n E regs colours allocs) (A B : State) (sim : Sim n (numberIn E) Seen j (staticIn regs) (numberIn colours) (heldIn allocs) A B)
-    (d c : ℕ) (h : Held) (v : Word) (B′ : State) where
-  -- Gen register d gets the next static, in colour c; v is what it is given, and B′ the reduced run's state then: it has
-  -- v in c and nothing else new. Either c was free, or v was there already
-  pub record Gets : Type 0 where
-    pub gen : d < n
-    pub colour : c < n
-    pub few : n ≤ 256
-    pub wide : n ≤ length regs
-    pub enough : n ≤ length allocs
-    pub reg : (k : ℕ) → B′ .reg k ≡ upd (B .reg) c v k
-    pub cell : (p x : ℕ) → B′ .cell p x ≡ B .cell p x
-    pub const : (k : ℕ) → B′ .const k ≡ B .const k
-    pub safe : (colourAt allocs c .life ≤ i) ⊎ (v ≡ B .reg c)
-    pub holds : (l : Loc) → h ≡ At l → v ≡ A .cell (l .space) (l .index)
+-- Gen register d gets the next static, in colour c; v is what it is given, and B′ the reduced run's state then: it has v in
+-- c and nothing else new. Either c was free, or v was there already
+pub record Gets (n i : ℕ) (regs : List Current) (allocs : List Alloc) (A B B′ : State) (d c : ℕ) (h : Held) (v : Word) : Type 0 where
+  pub gen : d < n
+  pub colour : c < n
+  pub few : n ≤ 256
+  pub wide : n ≤ length regs
+  pub enough : n ≤ length allocs
+  pub reg : (k : ℕ) → B′ .reg k ≡ upd (B .reg) c v k
+  pub cell : (p x : ℕ) → B′ .cell p x ≡ B .cell p x
+  pub const : (k : ℕ) → B′ .const k ≡ B .const k
+  pub safe : (colourAt allocs c .life ≤ i) ⊎ (v ≡ B .reg c)
+  pub holds : (l : Loc) → h ≡ At l → v ≡ A .cell (l .space) (l .index)
 
-  module _ (g : Gets) where
-    m : ℕ
-    m = length colours
+-- the destination of record i, the runs agreeing before it (j is i), or after another destination (j is suc i)
+module _ {n j i : ℕ} {E : List ℕ} {Seen : ℕ → ℕ → Type 0} {regs : List Current} {colours : List ℕ} {allocs : List Alloc} {A B B′ : State} {d c : ℕ} {h : Held} {v : Word}
+    (early : j ≤ suc i) (names : Names regs (length colours)) (live : Live n E regs colours allocs) (sim : SimIn n E Seen j regs colours allocs A B)
+    (g : Gets n i regs allocs A B B′ d c h v) where
+  m : ℕ
+  m = length colours
 
-    end : ℕ
-    unfolding m
-    end = numberIn E m
+  end : ℕ
+  unfolding m
+  end = numberIn E m
 
-    open-live : (r t : ℕ) → staticIn regs r ≡ Static t → (numberIn E t ≤ colourAt allocs (numberIn colours t) .life) × (numberIn colours t < n)
-    unfolding Live
-    open-live = live
+  new : Alloc
+  unfolding end
+  new = alloc (max (colourAt allocs c .life) end) h
 
-    -- a static that was held keeps its colour
-    old-colour : (r t : ℕ) → staticIn regs r ≡ Static t → numberIn (colours ++ c ∷ []) t ≡ numberIn colours t
-    old-colour r t e = List·getD-append colours (c ∷ []) 0 t (names .below r t e)
+  -- a static that was held keeps its colour
+  old-colour : (r t : ℕ) → staticIn regs r ≡ Static t → numberIn (colours ++ c ∷ []) t ≡ numberIn colours t
+  old-colour r t e = List·getD-append colours (c ∷ []) 0 t (names .below r t e)
 
-    -- no register that is needed later has lost its value
-    safe : (r t : ℕ) → staticIn regs r ≡ Static t → suc i ≤ numberIn E t → B′ .reg (numberIn colours t) ≡ B .reg (numberIn colours t)
-    safe r t e l =
-        rw (g .reg (numberIn colours t))
-        (⊎-elim (λ (q : numberIn colours t ≡ c). rw (q, upd-at (B .reg) c v) (at-c q))
-        (λ (q : numberIn colours t ≡ c → ⊥). upd-else (B .reg) c v (numberIn colours t) q) (same-or (numberIn colours t) c))
-      where
-        at-c : numberIn colours t ≡ c → v ≡ B .reg c
-        at-c q =
-            ⊎-elim (λ (f : colourAt allocs c .life ≤ i). absurd (omega (arith, f, rw q at (open-live r t e .0)))) (λ f. f) (g .safe)
+  -- no register that is needed later has lost its value
+  safe : (r t : ℕ) → staticIn regs r ≡ Static t → suc i ≤ numberIn E t → B′ .reg (numberIn colours t) ≡ B .reg (numberIn colours t)
+  safe r t e l =
+      rw (g .reg (numberIn colours t))
+      (⊎-elim (λ (q : numberIn colours t ≡ c). rw (q, upd-at (B .reg) c v) (at-c q))
+      (λ (q : numberIn colours t ≡ c → ⊥). upd-else (B .reg) c v (numberIn colours t) q) (same-or (numberIn colours t) c))
+    where
+      at-c : numberIn colours t ≡ c → v ≡ B .reg c
+      at-c q = ⊎-elim (λ (f : colourAt allocs c .life ≤ i). absurd (omega (arith, f, rw q at (live .of r t e .long)))) (λ f. f) (g .safe)
 
-    new : Alloc
-    unfolding end
-    new = alloc (max (colourAt allocs c .life) end) h
+  here : colourAt (set allocs c new) c ≡ new
+  here = getD-set-same allocs c new (alloc 0 Nothing) (omega (arith, g .colour, g .enough))
 
-    here : colourAt (set allocs c new) c ≡ new
-    here = getD-set-same allocs c new (alloc 0 Nothing) (omega (arith, g .colour, g .enough))
+  locations : (k : ℕ) (l : Loc) → k < n → heldIn (set allocs c new) k ≡ At l → B′ .reg k ≡ A .cell (l .space) (l .index)
+  unfolding new
+  locations k l q e =
+      rw (g .reg k)
+      (⊎-elim
+      (λ (f : k ≡ c). rw (f, upd-at (B .reg) c v) (g .holds l (sym (ap (λ (a : Alloc). a .loc) here) ∙ rw f at e)))
+      (λ (f : k ≡ c → ⊥).
+      rw (upd-else (B .reg) c v k f) (sim .held k l q (sym (ap (λ (a : Alloc). a .loc) (getD-set-other allocs c k new (alloc 0 Nothing) f)) ∙ e)))
+      (same-or k c))
 
-    locations : (k : ℕ) (l : Loc) → k < n → heldIn (set allocs c new) k ≡ At l → B′ .reg k ≡ A .cell (l .space) (l .index)
-    unfolding new
-    locations k l q e =
-        rw (g .reg k)
-        (⊎-elim
-        (λ (f : k ≡ c). rw (f, upd-at (B .reg) c v) (g .holds l (sym (ap (λ (a : Alloc). a .loc) here) ∙ rw f at e)))
-        (λ (f : k ≡ c → ⊥). rw (upd-else (B .reg) c v k f)
-        (sim .held k l q (sym (ap (λ (a : Alloc). a .loc) (getD-set-other allocs c k new (alloc 0 Nothing) f)) ∙ e)))
-        (same-or k c))
+  assigned : Assigned n (numberIn E) i (staticIn regs) (numberIn colours) (numberIn (colours ++ c ∷ [])) (heldIn (set allocs c new)) A B B′ d m c v
+  unfolding m
+  assigned =
+      record {
+        gen = omega (arith, g .gen, g .few);
+        new = getD-append-seam colours c [] 0;
+        old = old-colour;
+        here = g .reg c ∙ upd-at (B .reg) c v;
+        named = λ r l. g .reg r ∙ upd-else (B .reg) c v r (λ (q : r ≡ c). omega (arith, g .colour, g .few));
+        const = g .const;
+        cells = g .cell;
+        safe = λ r t q e l. safe r t e l;
+        holds = locations;
+      }
 
-    given : Given n (numberIn E) Seen j i early (staticIn regs) (numberIn colours) (heldIn allocs) A B sim d m c v (numberIn (colours ++ c ∷ [])) (heldIn (set allocs c new)) B′
-    unfolding m
-    given =
-        record {
-          gen = omega (arith, g .gen, g .few);
-          new = getD-append-seam colours c [] 0;
-          old = old-colour;
-          here = g .reg c ∙ upd-at (B .reg) c v;
-          named = λ r l. g .reg r ∙ upd-else (B .reg) c v r (λ (q : r ≡ c). omega (arith, g .colour, g .few));
-          const = g .const;
-          cells = g .cell;
-          safe = λ r t q e l. safe r t e l;
-          holds = locations;
-        }
+  -- the list's entry after the store is the function with another value at d
+  entry : (r t : ℕ) → staticIn (set regs d (Static m)) r ≡ Static t → upd (staticIn regs) d (Static m) r ≡ Static t
+  entry r t e =
+      ⊎-elim
+      (λ (q : r ≡ d). rw (q, upd-at (staticIn regs) d (Static m)) (sym (getD-set-same regs d (Static m) Unset (omega (arith, g .gen, g .wide))) ∙ rw q at e))
+      (λ (q : r ≡ d → ⊥). upd-else (staticIn regs) d (Static m) r q ∙ (sym (getD-set-other regs d r (Static m) Unset q) ∙ e)) (same-or r d)
 
-    -- the list's entry after the store is the function with another value at d
-    entry : (r t : ℕ) → staticIn (set regs d (Static m)) r ≡ Static t → upd (staticIn regs) d (Static m) r ≡ Static t
-    entry r t e =
-        ⊎-elim
-        (λ (q : r ≡ d). rw (q, upd-at (staticIn regs) d (Static m)) (sym (getD-set-same regs d (Static m) Unset (omega (arith, g .gen, g .wide))) ∙ rw q at e))
-        (λ (q : r ≡ d → ⊥). upd-else (staticIn regs) d (Static m) r q ∙ (sym (getD-set-other regs d r (Static m) Unset q) ∙ e)) (same-or r d)
+  pub sim-assign : SimIn n E Seen (suc i) (set regs d (Static (length colours))) (colours ++ c ∷ []) (assign allocs c (numberIn E (length colours)) h) (write d v A) B′
+  unfolding m end new
+  sim-assign =
+      let s = into-gen early sim assigned in
+      record { named = s .named; const = s .const; cells = s .cells; regs = λ r t e l. s .regs r t (entry r t e) l; held = s .held }
 
-    pub sim-given : Sim n (numberIn E) Seen (suc i) (staticIn (set regs d (Static (length colours)))) (numberIn (colours ++ c ∷ []))
-        (heldIn (assign allocs c (numberIn E (length colours)) h)) (write d v A) B′
-    unfolding m end new
-    sim-given =
-        let s = into-gen n (numberIn E) Seen j i early (staticIn regs) (numberIn colours) (heldIn allocs) A B sim d m c v (numberIn (colours ++ c ∷ [])) (heldIn (set allocs c new)) B′ given in
-        record { named = s .named; const = s .const; cells = s .cells; regs = λ r t e l. s .regs r t (entry r t e) l; held = s .held }
+  pub live-assign : Live n E (set regs d (Static (length colours))) (colours ++ c ∷ []) (assign allocs c (numberIn E (length colours)) h)
+  unfolding m end new
+  live-assign = record { of = λ r t e. ⊎-elim (at-d r t e) (elsewhere r t e) (same-or r d) }
+    where
+      longer : (k t : ℕ) → numberIn E t ≤ colourAt allocs k .life → numberIn E t ≤ colourAt (set allocs c new) k .life
+      longer k t l =
+          ⊎-elim (λ (f : k ≡ c). rw (f, here) (omega (arith, rw f at l, le-max-left (colourAt allocs c .life) end)))
+          (λ (f : k ≡ c → ⊥). rw (getD-set-other allocs c k new (alloc 0 Nothing) f) l) (same-or k c)
 
-    pub live-given : Live n E (set regs d (Static (length colours))) (colours ++ c ∷ []) (assign allocs c (numberIn E (length colours)) h)
-    unfolding Live m end new
-    live-given r t e =
-        ⊎-elim
-        (λ (q : r ≡ d).
-        let f = rw q at e in
-        let k = getD-set-same regs d (Static m) Unset (omega (arith, g .gen, g .wide)) in
-        let z : m ≡ t = cc in
-        rw (← z, getD-append-seam colours c [] 0, here) (le-max-right (colourAt allocs c .life) end, g .colour))
-        (λ (q : r ≡ d → ⊥).
-        let f : staticIn regs r ≡ Static t = sym (getD-set-other regs d r (Static m) Unset q) ∙ e in
-        let w = open-live r t f in
-        rw (old-colour r t f) (longer (numberIn colours t) (w .0), w .1))
-        (same-or r d)
-      where
-        longer : (k : ℕ) → numberIn E t ≤ colourAt allocs k .life → numberIn E t ≤ colourAt (set allocs c new) k .life
-        longer k l =
-            ⊎-elim (λ (f : k ≡ c). rw (f, here) (omega (arith, rw f at l, le-max-left (colourAt allocs c .life) end)))
-            (λ (f : k ≡ c → ⊥). rw (getD-set-other allocs c k new (alloc 0 Nothing) f) l) (same-or k c)
+      at-d : (r t : ℕ) → staticIn (set regs d (Static m)) r ≡ Static t → r ≡ d → Lives n E (colours ++ c ∷ []) (set allocs c new) t
+      at-d r t e q =
+          let f = rw q at e in
+          let k = getD-set-same regs d (Static m) Unset (omega (arith, g .gen, g .wide)) in
+          let z : m ≡ t = cc in
+          record {
+            long = rw (← z, getD-append-seam colours c [] 0, here) (le-max-right (colourAt allocs c .life) end);
+            below = rw (← z, getD-append-seam colours c [] 0) (g .colour);
+          }
+
+      elsewhere : (r t : ℕ) → staticIn (set regs d (Static m)) r ≡ Static t → (r ≡ d → ⊥) → Lives n E (colours ++ c ∷ []) (set allocs c new) t
+      elsewhere r t e q =
+          let f : staticIn regs r ≡ Static t = sym (getD-set-other regs d r (Static m) Unset q) ∙ e in
+          let w = live .of r t f in
+          record { long = rw (old-colour r t f) (longer (numberIn colours t) t (w .long)); below = rw (old-colour r t f) (w .below) }

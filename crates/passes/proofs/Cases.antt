@@ -1,18 +1,20 @@
 -- Section 9's table of ten, A to J, as one theorem about the definitions: the reduced list, or number and index.
 -- By computation.
 use Prim.Native.Nat.{ℕ}
-use mathlib.Core.Bool.{Bool, true, false}
-use mathlib.Core.List.{List, [], _∷_, _++_}
+use mathlib.Core.Bool.{true, false}
+use mathlib.Core.List.{List, [], _++_}
 use mathlib.Core.Path.{_≡_, refl}
 use Rattle.mir.specs.declared.config.Settings.{Settings}
 use Rattle.mir.specs.Answers.{Report, answered, refused, unless}
 use Rattle.mir.specs.Folds.{allBelow, all, firstRefusal}
-use Rattle.mir.specs.Questions.{refusal, recordRefusal, recordNo, fewRegisters, fewArgs, wellSized, knownKind, fieldsFit, wordsFit, pairsFit, gensFit, partnerFits, sourcesNamed}
+use Rattle.mir.specs.Questions.{refusal, recordRefusal, recordNo, fewRegisters, fewArgs, wellSized, knownKind, fieldsFit, wordsFit}
+use Rattle.mir.specs.Questions.{pairsFit, gensFit, partnerFits, sourcesNamed}
 use Rattle.mir.specs.Records.{recordAt, fixedMark}
 use Rattle.mir.specs.Renaming.{gens, produced, renamed, staticsTo, regsTo}
 use Rattle.mir.specs.Shapes.{row, shapeOf, dests, sources, registers}
 use Rattle.passes.specs.Create.{consumed, endsTo, endsOf}
-use Rattle.passes.specs.Color.{pairsFrom, firstBelow, plainChoice, choose, afterDest, wordFor, afterDests, wordsFor, foundFirst, isMember, joined, colored, colorStep, colorTo}
+use Rattle.passes.specs.Color.{pairsFrom, firstBelow, plainChoice, choose, afterDest, wordFor, afterDests, wordsFor, foundFirst}
+use Rattle.passes.specs.Color.{isMember, joined, colored, colorStep, colorTo}
 use Rattle.passes.specs.Contract.{outcomeOf, outAt, outcomeAt, reducedTo, reduced}
 
 -- args 0, not complex, and no table: the reduced list, or the refusal
@@ -70,6 +72,9 @@ pub record TenCases : Type 0 where
   pub j : of 2 (mov 1 0) ≡ refused 9 0
 
 pub ten-cases : TenCases
-unfolding of caseF refusal recordRefusal recordNo fewRegisters fewArgs wellSized knownKind fieldsFit wordsFit pairsFit gensFit partnerFits sourcesNamed allBelow all firstRefusal recordAt fixedMark gens produced renamed staticsTo regsTo shapeOf dests sources registers consumed endsTo endsOf pairsFrom firstBelow plainChoice choose afterDest wordFor afterDests wordsFor foundFirst isMember joined colored colorStep colorTo outcomeOf outAt outcomeAt reducedTo reduced
+unfolding of caseF refusal recordRefusal recordNo fewRegisters fewArgs wellSized knownKind fieldsFit wordsFit pairsFit gensFit
+    partnerFits sourcesNamed allBelow all firstRefusal recordAt fixedMark gens produced renamed staticsTo regsTo shapeOf
+    dests sources registers consumed endsTo endsOf pairsFrom firstBelow plainChoice choose afterDest wordFor afterDests wordsFor
+    foundFirst isMember joined colored colorStep colorTo outcomeOf outAt outcomeAt reducedTo reduced
 ten-cases =
     record { a = refl; b = refl; c = refl; d = refl; e = refl; f = refl; g = refl; h = refl; i = refl; j = refl }

@@ -4,28 +4,27 @@
 use Prim.Native.Nat.{ℕ, zero, suc, _≤_, _<_}
 use mathlib.Core.Bool.{Bool, true, false, cond, _&&_}
 use mathlib.Core.List.{List}
-use mathlib.Core.Logic.{_⊎_, inl, inr, ⊎-elim}
+use mathlib.Core.Logic.{_⊎_, ⊎-elim}
 use mathlib.Core.Option.{Option, some, none}
-use mathlib.Core.Path.{_≡_, refl, sym, ap, _∙_}
+use mathlib.Core.Path.{_≡_, refl, ap, _∙_}
 use native.Mathlib.Omega.{arith}
-use lib.Dec.{eqb, leb}
+use lib.Dec.{eqb}
 use borrow.Author.Tests.{eqb-true, eq-eqb, leb-true, leb-false}
+use Rattle.mir.proofs.Clash.{clash}
 use Rattle.mir.proofs.Folds.{below-suc}
 use Rattle.mir.proofs.Renaming.{and-both}
 use Rattle.passes.specs.declared.alloc.Alloc.{Alloc}
-use Rattle.passes.specs.declared.alloc.Choice.{Choice}
 use Rattle.passes.specs.declared.alloc.Choice.the-variants.{Found, Free, Empty}
 use Rattle.passes.specs.declared.alloc.Held.{Held}
 use Rattle.passes.specs.declared.alloc.Held.the-variants.{Nothing, At}
 use Rattle.passes.specs.declared.symbol.Loc.{Loc}
-use Rattle.passes.specs.Color.{colourAt, isFree, isBare, holds, holdsAt, sameLoc, orNext, firstBelow, freeOr, foundOr, plainChoice, choose, chosen}
+use Rattle.passes.specs.Color.{Coloring, HasPool, colourAt, isFree, isFound, isBare, holds, holdsAt, sameLoc, orNext, firstBelow}
+use Rattle.passes.specs.Color.{freeOr, foundOr, plainChoice, choose}
 
 module _ (p : ℕ → Bool) where
   pub first-some : (n c : ℕ) → firstBelow p n ≡ some c → (c < n) × (p c ≡ true)
   unfolding firstBelow
-  first-some zero c e =
-      let z : _≡_ {A = ℕ} 0 1 = cc in
-      absurd (omega arith)
+  first-some zero c e = clash (cc)
   first-some (suc n) c e = go (first-some n c) (firstBelow p n) refl (p n) refl e
     where
       go : (firstBelow p n ≡ some c → (c < n) × (p c ≡ true)) → (o : Option ℕ) → firstBelow p n ≡ o
@@ -36,9 +35,7 @@ module _ (p : ℕ → Bool) where
       go up none q true r f =
           let t : n ≡ c = cc in
           (omega arith, rw (← t) r)
-      go up none q false r f =
-          let z : _≡_ {A = ℕ} 0 1 = cc in
-          absurd (omega arith)
+      go up none q false r f = clash (cc)
 
   pub first-none : (n c : ℕ) → firstBelow p n ≡ none → c < n → p c ≡ false
   unfolding firstBelow
@@ -78,9 +75,7 @@ module _ (n i : ℕ) (allocs : List Alloc) where
       second (some k) q f =
           let t : k ≡ c = cc in
           first-some (isFree i allocs) n c (q ∙ ap some t)
-      second none q f =
-          let z : _≡_ {A = ℕ} 0 1 = cc in
-          absurd (omega arith)
+      second none q f = clash (cc)
 
       go : (o : Option ℕ) → firstBelow (λ k. isFree i allocs k && isBare allocs k) n ≡ o
           → freeOr o (freeOr (firstBelow (isFree i allocs) n) Empty) ≡ Free c → (c < n) × (isFree i allocs c ≡ true)
@@ -95,9 +90,9 @@ module _ (n i : ℕ) (allocs : List Alloc) where
   plain-not-found c e = go (firstBelow (λ k. isFree i allocs k && isBare allocs k) n) (firstBelow (isFree i allocs) n) e
     where
       go : (o q : Option ℕ) → freeOr o (freeOr q Empty) ≡ Found c → ⊥
-      go (some k) q f = let z : _≡_ {A = ℕ} 0 1 = cc in omega arith
-      go none (some k) f = let z : _≡_ {A = ℕ} 0 1 = cc in omega arith
-      go none none f = let z : _≡_ {A = ℕ} 0 1 = cc in omega arith
+      go (some k) q f = clash (cc)
+      go none (some k) f = clash (cc)
+      go none none f = clash (cc)
 
   plain-empty : plainChoice n i allocs ≡ Empty → (c : ℕ) → c < n → isFree i allocs c ≡ false
   unfolding plainChoice
@@ -117,9 +112,7 @@ module _ (n i : ℕ) (allocs : List Alloc) where
   choose-free (At l) c e = go (firstBelow (holdsAt allocs l) n) e
     where
       go : (o : Option ℕ) → foundOr o (plainChoice n i allocs) ≡ Free c → (c < n) × (colourAt allocs c .life ≤ i)
-      go (some k) f =
-          let z : _≡_ {A = ℕ} 0 1 = cc in
-          absurd (omega arith)
+      go (some k) f = clash (cc)
       go none f =
           let g = plain-free c f in
           (g .0, leb-true (colourAt allocs c .life) i (g .1))
@@ -148,8 +141,7 @@ module _ (n i : ℕ) (allocs : List Alloc) where
       go none q =
           let f = first-none (holdsAt allocs l) n d q h in
           let g = at-holds (colourAt allocs d .loc) l e in
-          let z : _≡_ {A = ℕ} 0 1 = cc in
-          absurd (omega arith)
+          clash (cc)
 
   -- an empty pool: every colour's life is above i
   pub choose-empty : (h : Held) → choose n i h allocs ≡ Empty → (c : ℕ) → c < n → i < colourAt allocs c .life
@@ -158,7 +150,16 @@ module _ (n i : ℕ) (allocs : List Alloc) where
   choose-empty (At m) e c l = go (firstBelow (holdsAt allocs m) n) e
     where
       go : (o : Option ℕ) → foundOr o (plainChoice n i allocs) ≡ Empty → i < colourAt allocs c .life
-      go (some k) f =
-          let z : _≡_ {A = ℕ} 0 1 = cc in
-          absurd (omega arith)
+      go (some k) f = clash (cc)
       go none f = leb-false (colourAt allocs c .life) i (plain-empty f c l)
+
+-- a choice with a pool is not empty
+pub pool-not-empty : (n i : ℕ) (h : Held) (st : Coloring) → HasPool n i h st → choose n i h (st .allocs) ≡ Empty → ⊥
+pool-not-empty n i h st p e =
+    ⊎-elim
+    (λ (f : isFound (choose n i h (st .allocs)) ≡ true).
+    let q : isFound Empty ≡ true = rw e at f in
+    clash (cc))
+    (λ (f : (c : ℕ) × (c < n) × (isFree i (st .allocs) c ≡ true)).
+    omega (arith, choose-empty n i (st .allocs) h e (f .0) (f .1), leb-true (colourAt (st .allocs) (f .0) .life) i (f .2)))
+    p

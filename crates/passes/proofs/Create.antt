@@ -2,24 +2,26 @@
 -- record, and a static that no register holds any more has its end behind it.
 -- By induction on the records, one destination and one source at a time.
 use Prim.Native.Nat.{ℕ, zero, suc, _+_, _-_, _≤_, _<_}
-use mathlib.Core.Bool.{Bool, true, false, cond, _||_, or-true}
-use mathlib.Core.List.{List, [], _∷_, _++_}
+use mathlib.Core.Bool.{Bool, true, false, cond, _||_}
+use mathlib.Core.List.{List, [], _∷_}
 use mathlib.Core.Logic.{_⊎_, inl, inr, ⊎-elim}
 use mathlib.Core.Path.{_≡_, refl, sym, ap, _∙_}
 use native.Mathlib.Nat.{add-assoc, add-zero}
 use native.Mathlib.Omega.{arith}
 use native.Mathlib.Decide.{decLt}
-use lib.Dec.{eqb, ltb}
-use lib.ListN.{length, getD, set, replicate, length-append, length-set, length-replicate, List·getD-append, getD-replicate, List·getD-eq-default}
+use lib.Dec.{eqb}
+use lib.ListN.{length, getD, set, replicate, length-append, length-set, length-replicate, List·getD-append, getD-replicate}
 use lib.Seq.{getD-set-same, getD-set-other, set-out, getD-append-add}
-use borrow.Author.Tests.{ltb-true}
 use Rattle.mir.specs.declared.rename.Current.{Current}
 use Rattle.mir.specs.declared.rename.Current.the-variants.{Static, Unset}
+use Rattle.mir.specs.Folds.{all}
 use Rattle.mir.specs.Records.{records, recordAt, wordAt, isGen, maxRegs}
 use Rattle.mir.specs.Renaming.{fresh, one, produce, gens, produced, renamed, staticsTo, regsTo}
 use Rattle.mir.specs.Shapes.{call, label, dests, sources}
+use Rattle.mir.proofs.Clash.{clash}
+use Rattle.mir.proofs.Renaming.{and-both}
 use Rattle.passes.specs.Create.{endedAt, consume, consumed, endsTo, endsOf}
-use Rattle.passes.proofs.Sim.{same-or}
+use Rattle.passes.proofs.Update.{same-or}
 
 -- ---- lists
 
@@ -49,8 +51,7 @@ unset-fresh (suc k) (suc r) = unset-fresh k r
 pub not-fresh : (r s : ℕ) → getD fresh r Unset ≡ Static s → ⊥
 not-fresh r s e =
     let u = unset-fresh maxRegs r in
-    let z : _≡_ {A = ℕ} 0 1 = cc in
-    omega arith
+    clash (cc)
 
 names-fresh : (m : ℕ) → Names fresh m
 names-fresh m = record { below = λ r s e. absurd (not-fresh r s e); once = λ r q s e f. absurd (not-fresh r s e) }
@@ -145,6 +146,13 @@ regs-old list i r s l e = go (eqb (wordAt rec 0) call || eqb (wordAt rec 0) labe
 abbrev pub In : ℕ → List ℕ → Type 0
 In w [] = ⊥
 In w (v ∷ vs) = (w ≡ v) ⊎ In w vs
+
+pub all-in : (p : ℕ → Bool) (ws : List ℕ) (w : ℕ) → all p ws ≡ true → In w ws → p w ≡ true
+unfolding all
+all-in p [] w h m = absurd m
+all-in p (v ∷ vs) w h m =
+    let b = and-both (p v) (all p vs) h in
+    ⊎-elim (λ (e : w ≡ v). rw e (b .0)) (λ (k : In w vs). all-in p vs w (b .1) k) m
 
 module _ (regs : List Current) (i : ℕ) where
   ended-length : (k : Current) (ends : List ℕ) → length (endedAt k i ends) ≡ length ends

@@ -1,5 +1,7 @@
 -- The theorems about the definitions, and the laws that the code's proofs cite.
 -- renaming, colouring, the read set and contracting
+pub mod Update
+pub mod Actions
 pub mod Create
 pub mod Choice
 pub mod Locations

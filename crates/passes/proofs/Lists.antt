@@ -7,14 +7,16 @@ use mathlib.Core.Path.{_≡_, refl}
 use Rattle.mir.specs.declared.config.Settings.{Settings}
 use Rattle.mir.specs.Answers.{Report, answered, unless}
 use Rattle.mir.specs.Folds.{allBelow, all, firstRefusal}
-use Rattle.mir.specs.Questions.{refusal, recordRefusal, recordNo, fewRegisters, fewArgs, wellSized, knownKind, fieldsFit, wordsFit, pairsFit, gensFit, partnerFits, sourcesNamed}
+use Rattle.mir.specs.Questions.{refusal, recordRefusal, recordNo, fewRegisters, fewArgs, wellSized, knownKind, fieldsFit, wordsFit}
+use Rattle.mir.specs.Questions.{pairsFit, gensFit, partnerFits, sourcesNamed}
 use Rattle.mir.specs.Records.{records, recordAt, fixedMark}
 use Rattle.mir.specs.Renaming.{gens, produced, renamed, staticsTo, regsTo}
 use Rattle.mir.specs.Shapes.{row, shapeOf, dests, sources, registers}
 use Rattle.passes.specs.declared.alloc.Outcome.{Outcome}
 use Rattle.passes.specs.declared.alloc.Outcome.the-variants.{Nop, Load, Move, Save}
 use Rattle.passes.specs.Create.{consumed, endsTo, endsOf}
-use Rattle.passes.specs.Color.{Coloring, setup, pairsFrom, firstBelow, plainChoice, choose, afterDest, wordFor, afterDests, wordsFor, foundFirst, isMember, joined, colored, colorStep, colorTo}
+use Rattle.passes.specs.Color.{Coloring, setup, pairsFrom, firstBelow, plainChoice, choose, afterDest, wordFor, afterDests, wordsFor}
+use Rattle.passes.specs.Color.{foundFirst, isMember, joined, colored, colorStep, colorTo}
 use Rattle.passes.specs.Contract.{outcomeOf, outAt, outcomeAt, reducedTo, reduced, countTo, countOf}
 use Rattle.passes.proofs.Cases.{loadConst, load, save, mov, label, stack, mem}
 
@@ -312,7 +314,11 @@ pub record StoredAccounts : Type 0 where
       ∷ (31, 15) ∷ (31, 18) ∷ (0, 18) ∷ (0, 19) ∷ [])
 
 pub stored-lists : StoredLists
-unfolding of namedRegisters moves firstFree olderHolder readByOthers droppedLoads complexMark complexLoads sameRegister labelAndCall branches thirtyTwo refusal recordRefusal recordNo fewRegisters fewArgs wellSized knownKind fieldsFit wordsFit pairsFit gensFit partnerFits sourcesNamed allBelow all firstRefusal recordAt fixedMark gens produced renamed staticsTo regsTo shapeOf dests sources registers consumed endsTo endsOf pairsFrom firstBelow plainChoice choose afterDest wordFor afterDests wordsFor foundFirst isMember joined colored colorStep colorTo outcomeOf outAt outcomeAt reducedTo reduced
+unfolding of namedRegisters moves firstFree olderHolder readByOthers droppedLoads complexMark complexLoads sameRegister
+    labelAndCall branches thirtyTwo refusal recordRefusal recordNo fewRegisters fewArgs wellSized knownKind fieldsFit wordsFit
+    pairsFit gensFit partnerFits sourcesNamed allBelow all firstRefusal recordAt fixedMark gens produced renamed staticsTo
+    regsTo shapeOf dests sources registers consumed endsTo endsOf pairsFrom firstBelow plainChoice choose afterDest wordFor
+    afterDests wordsFor foundFirst isMember joined colored colorStep colorTo outcomeOf outAt outcomeAt reducedTo reduced
 stored-lists =
     record {
       named-registers = refl;
@@ -330,7 +336,10 @@ stored-lists =
     }
 
 pub stored-accounts : StoredAccounts
-unfolding account namedRegisters moves firstFree olderHolder readByOthers droppedLoads complexMark complexLoads sameRegister labelAndCall branches thirtyTwo zip zipWith recordAt fixedMark gens produced renamed staticsTo regsTo shapeOf dests sources consumed endsTo endsOf pairsFrom firstBelow plainChoice choose afterDest wordFor afterDests wordsFor foundFirst isMember joined colored colorStep colorTo outcomeOf outAt outcomeAt countTo countOf
+unfolding account namedRegisters moves firstFree olderHolder readByOthers droppedLoads complexMark complexLoads sameRegister
+    labelAndCall branches thirtyTwo zip zipWith recordAt fixedMark gens produced renamed staticsTo regsTo shapeOf dests sources
+    consumed endsTo endsOf pairsFrom firstBelow plainChoice choose afterDest wordFor afterDests wordsFor foundFirst isMember
+    joined colored colorStep colorTo outcomeOf outAt outcomeAt countTo countOf
 stored-accounts =
     record {
       named-registers = refl;

@@ -1,18 +1,17 @@
 -- What an action does to the colours after the destinations: lives stay but for a reset, and Save gives its location to
 -- the source's colour alone.
 -- By the laws of `map` and `set` at one colour.
-use Prim.Native.Nat.{ℕ, zero, suc, _<_}
+use Prim.Native.Nat.{ℕ, zero, suc}
 use mathlib.Core.Bool.{Bool, true, false, cond}
-use mathlib.Core.List.{List, map}
+use mathlib.Core.List.{List}
 use mathlib.Core.Logic.{_⊎_, inl, inr, ⊎-elim}
 use mathlib.Core.Path.{_≡_, refl, sym, ap, _∙_}
-use native.Mathlib.Omega.{arith}
 use lib.ListN.{length, getD, set, replicate, length-set, length-map, List·getD-map}
 use Rattle.mir.specs.declared.shape.Action.{Action}
 use Rattle.mir.specs.declared.shape.Action.the-variants as action
 use Rattle.mir.specs.Records.{isGen, maxRegs}
+use Rattle.mir.proofs.Clash.{clash}
 use Rattle.passes.specs.declared.alloc.Alloc.{Alloc}
-use Rattle.passes.specs.declared.alloc.Held.{Held}
 use Rattle.passes.specs.declared.alloc.Held.the-variants.{Nothing, At}
 use Rattle.passes.specs.declared.symbol.Loc.{Loc}
 use Rattle.passes.specs.Color.{alloc, colourAt, holds, without, clear, give, updateAllocs, partner, blank}
@@ -96,8 +95,7 @@ cleared-holds l k a e = go (holds (a .loc) l) refl
     go : (b : Bool) → holds (a .loc) l ≡ b → (a .loc ≡ At k) × (holds (At k) l ≡ false)
     go true q =
         let f : Nothing ≡ At k = rw q at e in
-        let z : _≡_ {A = ℕ} 0 1 = cc in
-        absurd (omega arith)
+        clash (cc)
     go false q =
         let f : a .loc ≡ At k = rw q at e in
         (f, rw f at q)

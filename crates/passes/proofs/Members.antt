@@ -2,30 +2,29 @@
 -- Members are paid for: a record's own locations by the two of its record, a LoadArgs' pair by its place in the table,
 -- which pays once, since a member does not join again.
 use Prim.Native.Nat.{ℕ, zero, suc, _+_, _-_, _*_, _/_, _≤_, _<_}
-use mathlib.Core.Bool.{Bool, true, false, cond, not, _&&_}
+use mathlib.Core.Bool.{Bool, true, false, cond, _&&_}
 use mathlib.Core.List.{List, [], _∷_, _++_}
 use mathlib.Core.Logic.{_⊎_, inl, inr, ⊎-elim}
-use mathlib.Core.Path.{_≡_, refl, sym, ap, subst, _∙_}
+use mathlib.Core.Path.{_≡_, refl, ap}
 use native.Mathlib.Omega.{arith}
-use lib.Dec.{eqb, leb}
+use lib.Dec.{leb}
 use lib.ListN.{length, getD}
 use borrow.Author.Tests.{leb-true, eq-eqb}
 use Rattle.mir.specs.declared.config.Settings.{Settings}
 use Rattle.mir.specs.declared.shape.Action.{Action}
 use Rattle.mir.specs.declared.shape.Action.the-variants as action
 use Rattle.mir.specs.Records.{records, recordAt, wordAt}
-use Rattle.mir.specs.Shapes.{shapeOf, shapeFor, loadArgs}
+use Rattle.mir.specs.Shapes.{shapeFor, loadArgs}
 use Rattle.mir.specs.Folds.{allBelow}
 use Rattle.mir.specs.Questions.{fieldsFit, pairsFit, spaceFits, wordsFit}
 use Rattle.mir.proofs.Passing.{ListPasses}
 use Rattle.mir.proofs.Renaming.{and-both}
 use Rattle.mir.proofs.Shapes.{args-kind}
 use Rattle.passes.specs.declared.symbol.Loc.{Loc}
-use Rattle.passes.specs.Color.{Setup, setup, locOf, partner, loc, pairsFrom, reads, isMember, join, joined, foundAt, colorTo}
-use Rattle.passes.specs.Contract.{readSet}
-use Rattle.passes.proofs.Agreement.{readsAt, members-next}
-use Rattle.passes.proofs.Sim.{same-or}
-use Rattle.passes.proofs.ReadSet.{InLocs, Once, member-append, member-last, join-keeps, joined-keeps, joined-once, joined-more}
+use Rattle.passes.specs.Color.{Setup, setup, loc, pairsFrom, reads, isMember, join, joined, colorTo}
+use Rattle.passes.proofs.Actions.{same-action}
+use Rattle.passes.proofs.Update.{same-or}
+use Rattle.passes.proofs.ReadSet.{InLocs, readsAt, members-next, Once, member-append, member-last, joined-keeps, joined-once, joined-more}
 
 -- how many places of the table hold a member
 hits : List Loc → List Loc → ℕ
@@ -140,16 +139,6 @@ few-reads action.Clear h found l pairs located = omega arith
 few-reads action.Other h found l pairs true = omega arith
 few-reads action.Other h found l pairs false = omega arith
 
-args-or : (a : Action) → (a ≡ action.LoadArgs) ⊎ (a ≡ action.LoadArgs → ⊥)
-args-or action.LoadArgs = inl refl
-args-or action.Mov = inr (λ e. let z : _≡_ {A = ℕ} 0 1 = cc in omega arith)
-args-or action.Load = inr (λ e. let z : _≡_ {A = ℕ} 0 1 = cc in omega arith)
-args-or action.Save = inr (λ e. let z : _≡_ {A = ℕ} 0 1 = cc in omega arith)
-args-or action.LoadComplex = inr (λ e. let z : _≡_ {A = ℕ} 0 1 = cc in omega arith)
-args-or action.SaveComplex = inr (λ e. let z : _≡_ {A = ℕ} 0 1 = cc in omega arith)
-args-or action.Clear = inr (λ e. let z : _≡_ {A = ℕ} 0 1 = cc in omega arith)
-args-or action.Other = inr (λ e. let z : _≡_ {A = ℕ} 0 1 = cc in omega arith)
-
 module _ (s : Settings) (list table : List ℕ) (passes : ListPasses s list table) where
   -- what record i reads is paid for
   reads-paid : (i : ℕ) → i < records list → (ms : List Loc)
@@ -166,7 +155,7 @@ module _ (s : Settings) (list table : List ℕ) (passes : ListPasses s list tabl
             (pairs-in table 0 (length table / 2) (wordAt rec 1) (wordAt rec 2) (omega arith) (omega (arith, named e))),
       )))
       (λ (h : shapeFor rec .action ≡ action.LoadArgs → ⊥).
-      omega (arith, joined-counted (allPairs table) ms (readsAt (setup s list table) i), few h)) (args-or (shapeFor rec .action))
+      omega (arith, joined-counted (allPairs table) ms (readsAt (setup s list table) i), few h)) (same-action (shapeFor rec .action) action.LoadArgs)
     where
       rec : List ℕ
       rec = recordAt list i

@@ -4,11 +4,11 @@
 use Prim.Native.Nat.{ℕ, zero, suc, _+_, _≤_, _<_}
 use mathlib.Core.Bool.{Bool, true, false, cond, _||_}
 use mathlib.Core.List.{List, [], _∷_, map}
-use mathlib.Core.Logic.{_⊎_, inl, inr, ⊎-elim}
-use mathlib.Core.Path.{_≡_, refl, sym, ap, subst, _∙_}
+use mathlib.Core.Logic.{_⊎_, ⊎-elim}
+use mathlib.Core.Path.{_≡_, refl, ap, subst, _∙_}
 use native.Mathlib.Omega.{arith}
 use lib.Dec.{eqb}
-use lib.ListN.{length, getD, length-replicate}
+use lib.ListN.{length, getD}
 use borrow.Author.Tests.{eqb-true}
 use Rattle.mir.specs.declared.config.Settings.{Settings}
 use Rattle.mir.specs.declared.rename.Current.{Current}
@@ -16,18 +16,21 @@ use Rattle.mir.specs.declared.rename.Current.the-variants.{Static, Unset}
 use Rattle.mir.specs.declared.shape.Action.{Action}
 use Rattle.mir.specs.declared.shape.Action.the-variants as action
 use Rattle.mir.specs.Folds.{all}
-use Rattle.mir.specs.Questions.{genFits}
-use Rattle.mir.specs.Records.{records, recordAt, wordAt, maxRegs}
+use Rattle.mir.specs.Questions.{named, isStatic, sourcesNamed, genFits}
+use Rattle.mir.specs.Records.{records, recordAt, wordAt, isGen, maxRegs}
 use Rattle.mir.specs.Renaming.{fresh, gens, produced, renamed, staticsTo, regsTo}
-use Rattle.mir.specs.Shapes.{call, label, shapeOf, shapeFor, dests}
+use Rattle.mir.specs.Shapes.{call, label, shapeOf, shapeFor, dests, sources}
+use Rattle.mir.proofs.Clash.{clash}
 use Rattle.mir.proofs.Passing.{ListPasses, list-passes}
 use Rattle.mir.proofs.Renaming.{gens-fit-both}
 use Rattle.passes.specs.declared.alloc.Alloc.{Alloc}
 use Rattle.passes.specs.declared.alloc.Held.{Held}
-use Rattle.passes.specs.Color.{Setup, setup, Coloring, colourAt, blank, wanted, updateAllocs, locOf, HavePools, afterDests, sourcesAt, destsAt, colorStep, colorTo}
+use Rattle.passes.specs.Color.{Setup, setup, Coloring, colourAt, wanted, sourceWord, updateAllocs, locOf, HavePools, afterDests}
+use Rattle.passes.specs.Color.{sourcesAt, destsAt, colorStep, colorTo}
 use Rattle.passes.specs.Create.{endsOf}
 use Rattle.passes.specs.Machine.{Passing}
-use Rattle.passes.proofs.Create.{names-to, not-fresh, gone-end, regs-length}
+use Rattle.passes.proofs.Actions.{same-action}
+use Rattle.passes.proofs.Create.{In, all-in, names-to, not-fresh, gone-end, regs-length}
 use Rattle.passes.proofs.Pool.{Owner, Owned, Below, words, Before, After, walk}
 use Rattle.passes.proofs.Locations.{update-life, update-length, blank-life}
 
@@ -43,7 +46,10 @@ wanted-words [] hx hy = refl
 wanted-words (x ∷ ws) hx hy = ap (λ (l : List ℕ). x ∷ l) (same-words ws hy)
 
 -- only records whose action is Clear forget
-forgets-clear : (rec : List ℕ) → (eqb (wordAt rec 0) call || eqb (wordAt rec 0) label) ≡ true → shapeFor rec .action ≡ action.Clear
+abbrev forgets : List ℕ → Bool
+forgets rec = eqb (wordAt rec 0) call || eqb (wordAt rec 0) label
+
+forgets-clear : (rec : List ℕ) → forgets rec ≡ true → shapeFor rec .action ≡ action.Clear
 unfolding shapeOf
 forgets-clear rec h = go (eqb (wordAt rec 0) call) refl (eqb (wordAt rec 0) label) refl h
   where
@@ -52,36 +58,27 @@ forgets-clear rec h = go (eqb (wordAt rec 0) call) refl (eqb (wordAt rec 0) labe
     go false e true f q = rw (eqb-true (wordAt rec 0) label f)
     go false e false f q = cc
 
--- the registers after a record, by whether it forgets
+-- the registers once the destinations of record i are written; and after the record, by whether it forgets
+abbrev pub written : List ℕ → ℕ → List Current
+written list i = produced (dests (recordAt list i)) (staticsTo list i) (regsTo list i)
+
 module _ (list : List ℕ) (i : ℕ) where
-  pub regs-next : (shapeFor (recordAt list i) .action ≡ action.Clear → ⊥) → regsTo list (suc i) ≡ produced (dests (recordAt list i)) (staticsTo list i) (regsTo list i)
+  pub regs-next : (shapeFor (recordAt list i) .action ≡ action.Clear → ⊥) → regsTo list (suc i) ≡ written list i
   unfolding regsTo renamed
-  regs-next h = go (eqb (wordAt (recordAt list i) 0) call || eqb (wordAt (recordAt list i) 0) label) refl
+  regs-next h = go (forgets (recordAt list i)) refl
     where
-      go : (b : Bool) → (eqb (wordAt (recordAt list i) 0) call || eqb (wordAt (recordAt list i) 0) label) ≡ b
-          → cond b fresh (produced (dests (recordAt list i)) (staticsTo list i) (regsTo list i)) ≡ produced (dests (recordAt list i)) (staticsTo list i) (regsTo list i)
+      go : (b : Bool) → forgets (recordAt list i) ≡ b → cond b fresh (written list i) ≡ written list i
       go true e = absurd (h (forgets-clear (recordAt list i) e))
       go false e = refl
 
   -- who holds a static after the record held it once the destinations were written
-  regs-after : (r s : ℕ) → getD (regsTo list (suc i)) r Unset ≡ Static s → getD (produced (dests (recordAt list i)) (staticsTo list i) (regsTo list i)) r Unset ≡ Static s
+  regs-after : (r s : ℕ) → getD (regsTo list (suc i)) r Unset ≡ Static s → getD (written list i) r Unset ≡ Static s
   unfolding regsTo renamed
-  regs-after r s e = go (eqb (wordAt (recordAt list i) 0) call || eqb (wordAt (recordAt list i) 0) label) e
+  regs-after r s e = go (forgets (recordAt list i)) e
     where
-      go : (b : Bool) → getD (cond b fresh (produced (dests (recordAt list i)) (staticsTo list i) (regsTo list i))) r Unset ≡ Static s
-          → getD (produced (dests (recordAt list i)) (staticsTo list i) (regsTo list i)) r Unset ≡ Static s
+      go : (b : Bool) → getD (cond b fresh (written list i)) r Unset ≡ Static s → getD (written list i) r Unset ≡ Static s
       go true f = absurd (not-fresh r s f)
       go false f = f
-
-clear-or : (a : Action) → (a ≡ action.Clear) ⊎ (a ≡ action.Clear → ⊥)
-clear-or action.Clear = inl refl
-clear-or action.Mov = inr (λ e. let z : _≡_ {A = ℕ} 0 1 = cc in omega arith)
-clear-or action.Load = inr (λ e. let z : _≡_ {A = ℕ} 0 1 = cc in omega arith)
-clear-or action.Save = inr (λ e. let z : _≡_ {A = ℕ} 0 1 = cc in omega arith)
-clear-or action.LoadComplex = inr (λ e. let z : _≡_ {A = ℕ} 0 1 = cc in omega arith)
-clear-or action.SaveComplex = inr (λ e. let z : _≡_ {A = ℕ} 0 1 = cc in omega arith)
-clear-or action.LoadArgs = inr (λ e. let z : _≡_ {A = ℕ} 0 1 = cc in omega arith)
-clear-or action.Other = inr (λ e. let z : _≡_ {A = ℕ} 0 1 = cc in omega arith)
 
 -- what is known before record i
 pub record Ready (u : Setup) (i : ℕ) : Type 0 where
@@ -90,18 +87,28 @@ pub record Ready (u : Setup) (i : ℕ) : Type 0 where
   pub enough : length (colorTo u i .allocs) ≡ maxRegs
   pub below : Below (u .count) (colorTo u i .colours)
 
+module _ (s : Settings) (list table : List ℕ) (i : ℕ) where
+  abbrev st : Coloring
+  st = colorTo (setup s list table) i
+
+  -- what is known before the choices of record i, and after them
+  abbrev BeforeAt : Type 0
+  BeforeAt = Before (s .«count_regs») i (endsOf list) (destsAt (setup s list table) i st) (staticsTo list i) (regsTo list i) st
+
+  abbrev pub AfterAt : Type 0
+  AfterAt = After (s .«count_regs») i (endsOf list) (destsAt (setup s list table) i st) (staticsTo list i) (regsTo list i) st
+
 module _ (s : Settings) (list table : List ℕ) (passes : ListPasses s list table) (i : ℕ) (l : i < records list) where
   -- the record's destinations fit, and a static that they leave to nobody has its end behind it
   dests-fit : all (genFits (s .«count_regs»)) (dests (recordAt list i)) ≡ true
   dests-fit = gens-fit-both (s .«count_regs») (recordAt list i) (passes .each i l .shape .gens) .0
 
   left-behind : (t : ℕ) → t < staticsTo list i + gens (dests (recordAt list i))
-      → ((r : ℕ) → getD (produced (dests (recordAt list i)) (staticsTo list i) (regsTo list i)) r Unset ≡ Static t → ⊥) → getD (endsOf list) t 0 ≤ i
+      → ((r : ℕ) → getD (written list i) r Unset ≡ Static t → ⊥) → getD (endsOf list) t 0 ≤ i
   unfolding staticsTo
   left-behind t h g = gone-end list i t l h (λ r e. g r (regs-after list i r t e))
 
-  before : Ready (setup s list table) i
-      → Before (s .«count_regs») i (endsOf list) (destsAt (setup s list table) i (colorTo (setup s list table) i)) (staticsTo list i) (regsTo list i) (colorTo (setup s list table) i)
+  before : Ready (setup s list table) i → BeforeAt s list table i
   before ready =
       record {
         next = ready .next;
@@ -114,26 +121,21 @@ module _ (s : Settings) (list table : List ℕ) (passes : ListPasses s list tabl
         below = ready .below;
       }
 
-  done : (ready : Ready (setup s list table) i)
-      → After (s .«count_regs») i (endsOf list) (destsAt (setup s list table) i (colorTo (setup s list table) i)) (staticsTo list i) (regsTo list i) (colorTo (setup s list table) i)
+  done : Ready (setup s list table) i → AfterAt s list table i
   done ready = walk _ i (endsOf list) _ (staticsTo list i) (regsTo list i) _ (before ready)
 
   -- the colours after the action: a reset leaves none that is needed, and any other action leaves the lives
   module _ (ready : Ready (setup s list table) i) where
-    st : Coloring
-    st = colorTo (setup s list table) i
-
     act : Action
     act = shapeFor (recordAt list i) .action
 
     given : Coloring
-    unfolding st
-    given = afterDests (s .«count_regs») i (endsOf list) (destsAt (setup s list table) i st) st
+    given = afterDests (s .«count_regs») i (endsOf list) (destsAt (setup s list table) i (st s list table i)) (st s list table i)
 
     updated : List Alloc
-    unfolding st given act
+    unfolding given act
     updated =
-        let srcs = sourcesAt (setup s list table) i st in
+        let srcs = sourcesAt (setup s list table) i (st s list table i) in
         updateAllocs act (locOf (recordAt list i)) (getD srcs 0 0) (getD srcs 1 0) (given .allocs)
 
     reset : act ≡ action.Clear → (c : ℕ) → colourAt updated c .life ≡ 0
@@ -146,18 +148,20 @@ module _ (s : Settings) (list table : List ℕ) (passes : ListPasses s list tabl
 
     owner : (act ≡ action.Clear → ⊥) → (c : ℕ) → c < s .«count_regs» → i < colourAt (given .allocs) c .life
         → Owner (s .«count_regs») (endsOf list) (regsTo list (suc i)) (given .colours) c (colourAt (given .allocs) c .life)
-    unfolding given st act Owned
-    owner h c l p = rw (regs-next list i h) (subst (λ (ws : List ℕ). Owner (s .«count_regs») (endsOf list) (produced ws (staticsTo list i) (regsTo list i)) (given .colours) c (colourAt (given .allocs) c .life)) (wanted-words (dests (recordAt list i)) _ _) (done ready .owned c l p))
+    unfolding given act Owned
+    owner h c l p =
+        let o = done ready .owned c l p in
+        rw (regs-next list i h) (rw (wanted-words (dests (recordAt list i))) at o)
 
     ready-next : Ready (setup s list table) (suc i)
-    unfolding colorTo colorStep Owned staticsTo st act given updated
+    unfolding colorTo colorStep Owned staticsTo act given updated
     ready-next =
         record {
           next = done ready .next ∙ ap (λ (ws : List ℕ). staticsTo list i + gens ws) (wanted-words (dests (recordAt list i)) _ _);
           owned = λ c l p. ⊎-elim (λ (e : act ≡ action.Clear). absurd (omega (arith, reset e c)))
               (λ (h : act ≡ action.Clear → ⊥).
               let q = goes-on h c in
-              rw q (owner h c l (omega (arith, q)))) (clear-or act);
+              rw q (owner h c l (omega (arith, q)))) (same-action act action.Clear);
           enough = update-length _ _ _ (given .allocs) act (done ready .enough ∙ ready .enough);
           below = done ready .below;
         }
@@ -172,12 +176,33 @@ module _ (s : Settings) (list table : List ℕ) (passes : ListPasses s list tabl
   ready-to (suc i) l = ready-next s list table passes i (omega arith) (ready-to i (omega arith))
 
   -- what the choices of record i leave known
-  pub choices-of : (i : ℕ) (l : i < records list)
-      → After (s .«count_regs») i (endsOf list) (destsAt (setup s list table) i (colorTo (setup s list table) i)) (staticsTo list i) (regsTo list i)
-      (colorTo (setup s list table) i)
+  pub choices-of : (i : ℕ) → i < records list → AfterAt s list table i
   choices-of i l = done s list table passes i l (ready-to i (omega arith))
 
 pub pool-never-empty : (s : Settings) (list table : List ℕ) → Passing s list table → (i : ℕ) → i < records list
     → HavePools (s .«count_regs») i (endsOf list) (destsAt (setup s list table) i (colorTo (setup s list table) i)) (colorTo (setup s list table) i)
 unfolding Passing
 pool-never-empty s list table h i l = choices-of s list table (list-passes true s list table h) i l .pools
+
+-- ---- sources
+
+static-of : (c : Current) → isStatic c ≡ true → (t : ℕ) × (c ≡ Static t)
+static-of (Static t) e = (t, refl)
+static-of Unset e = clash (cc)
+
+module _ (s : Settings) (list table : List ℕ) (passes : ListPasses s list table) (i : ℕ) (inside : i < records list) (w : ℕ)
+    (source : In w (sources (recordAt list i))) (gen : isGen w ≡ true) where
+  -- a Gen source holds a static
+  pub source-static : (t : ℕ) × (getD (regsTo list i) w Unset ≡ Static t)
+  unfolding sourcesNamed
+  source-static =
+      let has = all-in (named (regsTo list i)) (sources (recordAt list i)) w (passes .each i inside .sources) source in
+      static-of (getD (regsTo list i) w Unset) (rw gen at has)
+
+  -- and its colour is one of the n
+  pub source-below : sourceWord (regsTo list i) (colorTo (setup s list table) i .colours) w < s .«count_regs»
+  unfolding Below
+  source-below =
+      let ready = ready-to s list table passes i (omega arith) in
+      let t = source-static in
+      rw (gen, t .1) (ready .below (t .0) (rw (ready .next) (names-to list i .below w (t .0) (t .1))))

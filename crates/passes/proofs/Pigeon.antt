@@ -1,14 +1,14 @@
 -- Pigeonhole: no function takes the numbers up to n to different numbers below n.
 -- By induction on n: whoever has the last hole takes the hole of the last pigeon, who leaves.
 use Prim.Native.Nat.{ℕ, zero, suc, _≤_, _<_}
-use mathlib.Core.Bool.{Bool, true, false, cond}
+use mathlib.Core.Bool.{cond}
 use mathlib.Core.Logic.{_⊎_, inl, inr, ⊎-elim}
-use mathlib.Core.Path.{_≡_, refl, sym, ap, _∙_}
+use mathlib.Core.Path.{_≡_, refl, sym, _∙_}
 use native.Mathlib.Decide.{decLt}
 use native.Mathlib.Omega.{arith}
 use lib.Dec.{eqb}
 use borrow.Author.Tests.{eq-eqb, ne-eqb}
-use Rattle.passes.proofs.Sim.{same-or}
+use Rattle.passes.proofs.Update.{same-or}
 
 -- different numbers up to n go to different numbers
 Apart : ℕ → (ℕ → ℕ) → Type 0

@@ -2,12 +2,12 @@
 -- A colour that is needed beyond record i is owned by a register, whose static has that colour and ends with its life.
 -- A register that record i writes owns none, since nothing can read its old static later. So if no colour were free,
 -- there would be as many registers besides the written one as there are registers: the pigeonhole.
-use Prim.Native.Nat.{ℕ, zero, suc, _+_, _≤_, _<_, max}
+use Prim.Native.Nat.{ℕ, suc, _+_, _≤_, _<_, max}
 use mathlib.Core.Bool.{Bool, true, false, cond}
 use mathlib.Core.List.{List, [], _∷_, _++_}
 use mathlib.Core.Logic.{_⊎_, inl, inr, ⊎-elim}
 use mathlib.Core.Path.{_≡_, refl, sym, ap, subst, _∙_}
-use native.Mathlib.Nat.{le-max-left, le-max-right, max-eq-left, max-eq-right}
+use native.Mathlib.Nat.{max-eq-left, max-eq-right}
 use native.Mathlib.Decide.{decLe}
 use native.Mathlib.Omega.{arith}
 use lib.ListN.{length, getD, set, length-set, length-append, List·getD-append}
@@ -20,17 +20,19 @@ use Rattle.passes.specs.declared.alloc.Choice.the-variants.{Found, Free,
 use Rattle.passes.specs.declared.alloc.Held.{Held}
 use borrow.Author.Tests.{le-leb, ltb-true, lt-ltb}
 use lib.Dec.{ltb}
+use Rattle.mir.proofs.Clash.{clash}
 use Rattle.mir.proofs.Folds.{below-suc}
 use Rattle.mir.proofs.Renaming.{and-both, gen-below}
 use Rattle.mir.specs.Folds.{all}
 use Rattle.mir.specs.Questions.{genFits}
 use Rattle.mir.specs.Records.{isGen}
 use Rattle.mir.specs.Renaming.{gens, produced}
-use Rattle.passes.specs.Color.{Coloring, alloc, colourAt, isFree, isFound, choose, chosen, assign, HasPool, HavePools, wordFor, wordsFor, afterDest, afterDests}
+use Rattle.passes.specs.Color.{Coloring, alloc, colourAt, isFree, isFound, choose, chosen, assign, HasPool, HavePools, wordFor}
+use Rattle.passes.specs.Color.{wordsFor, afterDest, afterDests}
 use Rattle.passes.proofs.Choice.{choose-free, choose-found, choose-empty}
 use Rattle.passes.proofs.Create.{Names, names-set, produced-old}
 use Rattle.passes.proofs.Pigeon.{no-room}
-use Rattle.passes.proofs.Sim.{same-or}
+use Rattle.passes.proofs.Update.{same-or}
 
 -- who owns colour c: a register below n, its static, whose colour is c and whose end is the colour's life
 pub record Owner (n : ℕ) (E : List ℕ) (regs : List Current) (colours : List ℕ) (c life : ℕ) : Type 0 where
@@ -343,16 +345,13 @@ module _ (n i : ℕ) (E : List ℕ) where
     with-named g up =
         let e = afters-named w h ds st g in
         record {
-          pools = (λ q. absurd (clash q g), rw (after-named w h st g) (up .pools));
+          pools = (λ q. clash (cc), rw (after-named w h st g) (up .pools));
           owned = rw (e, produced-named w (words ds) m regs g) (up .owned);
           next = rw (e, gens-named w (words ds) g) (up .next);
           enough = rw e (up .enough);
           below = rw e (up .below);
           fit = rw (words-named w h ds st g, head-fits) (up .fit);
         }
-      where
-        clash : {b : Bool} → b ≡ true → b ≡ false → ⊥
-        clash q r = let z : _≡_ {A = ℕ} 0 1 = cc in omega arith
 
   pub walk : (ds : List (ℕ × Held)) (m : ℕ) (regs : List Current) (st : Coloring) → Before ds m regs st → After ds m regs st
   unfolding afterDests wordsFor words produced gens all

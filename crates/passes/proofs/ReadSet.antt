@@ -1,16 +1,23 @@
--- The read set: what joins it is in it from then on, it has no repeats, and it grows by at most what a record reads.
+-- The read set: what joins it is in it from then on, it has no repeats, and a record adds to it what it reads.
 -- By induction on what joins, and then on the records.
-use Prim.Native.Nat.{ℕ, zero, suc, _+_, _≤_, _<_}
-use mathlib.Core.Bool.{Bool, true, false, cond, _||_, or-true, or-assoc}
+use Prim.Native.Nat.{ℕ, zero, suc, _+_, _-_, _≤_, _<_}
+use mathlib.Core.Bool.{Bool, true, false, cond, _||_, not, or-true, or-assoc}
 use mathlib.Core.List.{List, [], _∷_, _++_}
 use mathlib.Core.Logic.{_⊎_, inl, inr, ⊎-elim}
-use mathlib.Core.Path.{_≡_, refl, sym, ap, _∙_}
+use mathlib.Core.Path.{_≡_, refl, sym, subst, _∙_}
 use native.Mathlib.Nat.{zero-add, suc-add}
 use native.Mathlib.Omega.{arith}
-use lib.ListN.{length, length-append}
+use lib.Dec.{eqb}
+use lib.ListN.{length, getD, length-append}
+use Rattle.mir.specs.Records.{records, recordAt, wordAt, isGen}
+use Rattle.mir.specs.Shapes.{shapeFor}
+use Rattle.passes.specs.declared.alloc.Held.{Held}
 use Rattle.passes.specs.declared.symbol.Loc.{Loc}
-use Rattle.passes.specs.Color.{sameLoc, isMember, join, joined}
+use Rattle.passes.specs.Color.{Setup, Coloring, locOf, sameLoc, pairsFrom, reads, isMember, join, joined, assign, choose, chosen}
+use Rattle.passes.specs.Color.{afterDest, afterDests, destsAt, foundAt, colorStep, colorTo}
+use Rattle.passes.specs.Contract.{readSet}
 use Rattle.passes.proofs.Choice.{same-loc, loc-same}
+use Rattle.mir.proofs.Clash.{clash}
 
 -- l is one of the locations
 abbrev pub InLocs : Loc → List Loc → Type 0
@@ -43,7 +50,7 @@ member-last l (m ∷ ms) ks = member-there l m (ms ++ l ∷ ks) (member-last l m
 -- a member is one of the locations
 pub member-in : (l : Loc) (ms : List Loc) → isMember l ms ≡ true → InLocs l ms
 unfolding isMember
-member-in l [] h = let z : _≡_ {A = ℕ} 0 1 = cc in omega arith
+member-in l [] h = clash (cc)
 member-in l (m ∷ ms) h = go (sameLoc m l) refl (member-in l ms)
   where
     go : (b : Bool) → sameLoc m l ≡ b → (isMember l ms ≡ true → InLocs l ms) → (l ≡ m) ⊎ InLocs l ms
@@ -135,3 +142,51 @@ pub joined-more : (ms ls : List Loc) → length (joined ms ls) ≤ length ms + l
 unfolding joined
 joined-more ms [] = omega arith
 joined-more ms (l ∷ ls) = omega (arith, joined-more (join ms l) ls, join-more ms l)
+
+-- ---- record by record
+
+module _ (n i : ℕ) (E : List ℕ) where
+  dest-members : (w : ℕ) (h : Held) (st : Coloring) → afterDest n i E w h st .members ≡ st .members
+  unfolding afterDest
+  dest-members w h st = go (isGen w)
+    where
+      go : (b : Bool)
+          → cond b
+          (record {
+            allocs = assign (st .allocs) (chosen (choose n i h (st .allocs))) (getD E (length (st .colours)) 0) h;
+            colours = st .colours ++ chosen (choose n i h (st .allocs)) ∷ [];
+            members = st .members;
+          })
+          st
+          .members
+          ≡ st .members
+      go true = refl
+      go false = refl
+
+  pub dests-members : (ds : List (ℕ × Held)) (st : Coloring) → afterDests n i E ds st .members ≡ st .members
+  unfolding afterDests
+  dests-members [] st = refl
+  dests-members (d ∷ ds) st = dests-members ds (afterDest n i E (d .0) (d .1) st) ∙ dest-members (d .0) (d .1) st
+
+module _ (u : Setup) where
+  -- what record i reads
+  unfoldable pub readsAt : ℕ → List Loc
+  readsAt i =
+      let rec = recordAt (u .list) i in
+      reads (shapeFor rec .action) (foundAt u i (colorTo u i)) (locOf rec) (pairsFrom (u .table) (wordAt rec 1) (wordAt rec 2)) (not (eqb (shapeFor rec .loc) 0))
+
+  pub members-next : (i : ℕ) → colorTo u (suc i) .members ≡ joined (colorTo u i .members) (readsAt i)
+  unfolding colorTo colorStep readsAt
+  members-next i = rw (dests-members (u .count) i (u .ends) (destsAt u i (colorTo u i)) (colorTo u i))
+
+  members-stay : (k i : ℕ) (l : Loc) → isMember l (colorTo u i .members) ≡ true → isMember l (colorTo u (k + i) .members) ≡ true
+  members-stay zero i l h = rw zero-add h
+  members-stay (suc k) i l h = rw (suc-add, members-next (k + i)) (joined-keeps (colorTo u (k + i) .members) (readsAt (k + i)) l (members-stay k i l h))
+
+  -- a location that some record reads is in the whole read set
+  pub is-read : (i : ℕ) (l : Loc) → i < records (u .list) → InLocs l (readsAt i) → isMember l (readSet u) ≡ true
+  is-read i l h r =
+      let k = records (u .list) - suc i in
+      let e : k + suc i ≡ records (u .list) = omega arith in
+      subst (λ (j : ℕ). isMember l (colorTo u j .members) ≡ true) e
+      (members-stay k (suc i) l (rw (members-next i) (joined-has (colorTo u i .members) (readsAt i) l r)))

@@ -8,9 +8,9 @@ use mathlib.Core.Logic.{_⊎_, inl, inr, ⊎-elim}
 use mathlib.Core.Path.{_≡_, refl, sym, ap, subst, _∙_}
 use native.Mathlib.Decide.{decLt, decLe}
 use native.Mathlib.Omega.{arith}
-use lib.Dec.{eqb, ltb, leb}
-use lib.ListN.{length, getD, take, drop, length-append, length-take, length-drop, List·getD-append}
-use borrow.Author.Tests.{le-leb, leb-true, lt-ltb, eqb-true}
+use lib.Dec.{eqb, leb}
+use lib.ListN.{length, getD, take, drop, length-append, List·getD-append}
+use borrow.Author.Tests.{le-leb, leb-true, eqb-true}
 use lib.Seq.{length-take-le, take-at, drop-at, getD-take, getD-drop, getD-append-add}
 use Rattle.mir.specs.declared.config.Settings.{Settings}
 use Rattle.mir.specs.declared.shape.Shape.{Shape}
@@ -28,16 +28,16 @@ use Rattle.passes.specs.declared.alloc.Choice.{Choice}
 use Rattle.passes.specs.declared.alloc.Choice.the-variants.{Found, Free, Empty}
 use Rattle.passes.specs.declared.alloc.Outcome.the-variants.{Kept}
 use Rattle.passes.specs.declared.alloc.Held.{Held}
-use Rattle.passes.specs.Color.{Setup, setup, Coloring, choose, chosen, afterDest, wordFor, wordsFor, sourceWord, sourcesAt, destsAt, colored, colorTo}
+use Rattle.passes.specs.Color.{Setup, setup, Coloring, choose, chosen, afterDest, wordFor, wordsFor, sourceWord, sourcesAt, destsAt}
+use Rattle.passes.specs.Color.{colored, colorTo}
 use Rattle.passes.specs.Contract.{outAt, outcomeAt, isKept, reducedTo, reduced, countTo}
 use Rattle.passes.specs.Create.{endsOf}
 use Rattle.passes.specs.Machine.{Passing}
 use Rattle.passes.proofs.Choice.{choose-free, choose-found}
-use Rattle.passes.proofs.Create.{In}
-use Rattle.passes.proofs.Agreement.{all-in, source-below}
+use Rattle.passes.proofs.Create.{In, all-in}
 use Rattle.passes.proofs.Lengths.{dest-words-length, source-words-length, out-length, kept-next, reduced-length}
 use Rattle.passes.proofs.Pool.{words, colour-fits}
-use Rattle.passes.proofs.NeverEmpty.{choices-of, wanted-words}
+use Rattle.passes.proofs.NeverEmpty.{choices-of, wanted-words, source-below}
 use Rattle.passes.proofs.Runs.{record-length, record-early, record-new}
 
 -- ---- a list with its middle replaced: a words from place r on

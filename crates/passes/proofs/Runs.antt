@@ -1,11 +1,11 @@
 -- A run goes on by one record where the list does.
 -- The records of a list are those of its beginning, and then the new one.
-use Prim.Native.Nat.{ℕ, zero, suc, _+_, _*_, _/_, _≤_, _<_}
-use mathlib.Core.List.{List, [], _∷_, _++_}
-use mathlib.Core.Path.{_≡_, refl, sym, ap, _∙_}
+use Prim.Native.Nat.{ℕ, zero, suc, _+_, _*_, _≤_, _<_}
+use mathlib.Core.List.{List, _++_}
+use mathlib.Core.Path.{_≡_, refl}
 use native.Mathlib.Omega.{arith}
-use lib.ListN.{length, take, drop, length-append, length-drop}
-use lib.Seq.{take-append-le, drop-append-le, drop-at, take-all, take-append-seam}
+use lib.ListN.{length, drop, length-append, length-drop}
+use lib.Seq.{take-append-le, drop-append-le, drop-at, take-all}
 use Rattle.mir.specs.Records.{records, recordAt}
 use Rattle.passes.specs.Machine.{Meaning, State, turn, runTo, run}
 

@@ -17,7 +17,7 @@ use Rattle.passes.specs.declared.alloc.Choice.{Choice}
 use Rattle.passes.specs.declared.alloc.Choice.the-variants.{Found, Free, Empty}
 use Rattle.passes.specs.declared.alloc.Held.{Held}
 use Rattle.passes.specs.Color.{Coloring, choose, chosen, isFound, choiceFor, assign, afterDest, afterDests, HasPool, HavePools}
-use Rattle.passes.proofs.Agreement.{pool-not-empty}
+use Rattle.passes.proofs.Choice.{pool-not-empty}
 use Rattle.passes.proofs.Pool.{words}
 use Rattle.allocator.specs.Optimize.{over}
 use Rattle.allocator.specs.Inner.Walks.{Slices, slices, mark, destStep, destSteps, Picks, Ready, foundsFor, marked}

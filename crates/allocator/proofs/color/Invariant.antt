@@ -18,7 +18,7 @@ use Rattle.mir.proofs.Renaming.{statics-two}
 use Rattle.passes.specs.Color.{Setup, pairsFrom, joined, foundAt, colorTo}
 use Rattle.passes.specs.Create.{endsOf}
 use Rattle.passes.specs.Machine.{Passing}
-use Rattle.passes.proofs.Agreement.{readsAt, members-next}
+use Rattle.passes.proofs.ReadSet.{readsAt, members-next}
 use Rattle.passes.proofs.Members.{few-members}
 use Rattle.passes.proofs.NeverEmpty.{ready-to}
 use Rattle.allocator.specs.Optimize.{over, wordsOf}

@@ -22,7 +22,7 @@ use Rattle.passes.specs.declared.alloc.Held.{Held}
 use Rattle.passes.specs.Color.{Coloring, Setup, setup, colourOf, sourceWord, heldBy, wantX, wantY, wanted, updateAllocs, locOf, isFound, choiceFor, afterDest, sourcesAt, destsAt, foundFirst, foundAt, colorStep, colorTo}
 use Rattle.passes.specs.Create.{endsOf}
 use Rattle.passes.proofs.Create.{In, names-to, ends-length, ends-below, statics-mono}
-use Rattle.passes.proofs.Agreement.{source-below}
+use Rattle.passes.proofs.NeverEmpty.{source-below}
 use Rattle.passes.proofs.NeverEmpty.{ready-to, choices-of, wanted-words}
 use Rattle.passes.proofs.Pool.{words}
 use Rattle.allocator.specs.Optimize.{over}
