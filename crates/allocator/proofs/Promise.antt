@@ -18,8 +18,10 @@ use Rattle.passes.specs.Create.{endsOf}
 use Rattle.passes.specs.Machine.{Passing, EndsEqual, run}
 use Rattle.passes.proofs.Lengths.{reduced-length}
 use Rattle.passes.proofs.Preserved.{preserved}
-use Rattle.allocator.specs.declared.Answer.{Answer}
+use Rattle.allocator.specs.declared.Answer.the-variants.{Reduced, Refused}
+use Rattle.allocator.specs.declared.Counts.{Counts}
 use Rattle.allocator.specs.Optimize.{Lent, Optimized, roomIn, verdictOf, countsOf, report, recordsIn, over, left, wordsOf}
+use Rattle.allocator.specs.Inner.Walks.{Reduces}
 use Rattle.allocator.proofs.Over.{over-take}
 
 module _ (s : Settings) (list table : List ℕ) where
@@ -44,32 +46,30 @@ module _ (s : Settings) (list table : List ℕ) (held : Lent) where
   unfolding verdictOf Passing
   passing v = rw (room-in v) at v
 
-  module _ (now : Lent) (given : Answer) where
-    pub passed-promise : verdictOf s list table held ≡ verdict.Passed → report given ≡ answered (countsOf s list table)
-        → now .out ≡ over (reduced s list table) (held .out) → now .colours ≡ over (coloursOf s list table) (held .colours)
-        → now .ends ≡ over (endsOf list) (held .ends) → now .set ≡ over (wordsOf (membersOf s list table)) (held .set) → Optimized s list table held now given
-    passed-promise v a o c e m =
-        record {
-          answer = a ∙ sym (ap (λ w. unless w (countsOf s list table)) v);
-          out = o ∙ sym (ap (λ w. left w (reduced s list table) (held .out)) v);
-          colours = c ∙ sym (ap (λ w. left w (coloursOf s list table) (held .colours)) v);
-          ends = e ∙ sym (ap (λ w. left w (endsOf list) (held .ends)) v);
-          set = m ∙ sym (ap (λ w. left w (wordsOf (membersOf s list table)) (held .set)) v);
-          preserved = λ p scalar k start.
-              subst (λ l. EndsEqual s (run k list start) (run k l start)) (sym kept) (preserved s list table (passing p) scalar k start);
-        }
-      where
-        kept : take (recordsIn (report given) * 8) (now .out) ≡ reduced s list table
-        kept = ap (λ l. take (recordsIn (report given) * 8) l) o ∙ (ap (λ r. take (recordsIn r * 8) (over (reduced s list table) (held .out))) a ∙ taken s list table (held .out))
+module _ {s : Settings} {list table : List ℕ} {held : Lent} where
+  pub passed-promise : {now : Lent} {r : Counts} → verdictOf s list table held ≡ verdict.Passed → Reduces s list table held now r → Optimized s list table held now (Reduced r)
+  passed-promise {now} {r} v w =
+      record {
+        answer = w .answer ∙ sym (ap (λ u. unless u (countsOf s list table)) v);
+        out = w .out ∙ sym (ap (λ u. left u (reduced s list table) (held .out)) v);
+        colours = w .colours ∙ sym (ap (λ u. left u (coloursOf s list table) (held .colours)) v);
+        ends = w .ends ∙ sym (ap (λ u. left u (endsOf list) (held .ends)) v);
+        set = w .set ∙ sym (ap (λ u. left u (wordsOf (membersOf s list table)) (held .set)) v);
+        preserved = λ p scalar k start. rw kept (preserved s list table (passing s list table held p) scalar k start);
+      }
+    where
+      kept : take (recordsIn (report (Reduced r)) * 8) (now .out) ≡ reduced s list table
+      kept =
+          ap (take (recordsIn (report (Reduced r)) * 8)) (w .out)
+          ∙ (ap (λ a. take (recordsIn a * 8) (over (reduced s list table) (held .out))) (w .answer) ∙ taken s list table (held .out))
 
-  module _ (given : Answer) (number index : ℕ) where
-    pub refused-promise : verdictOf s list table held ≡ verdict.Refused number index → report given ≡ refused number index → Optimized s list table held held given
-    refused-promise v a =
-        record {
-          answer = a ∙ sym (ap (λ w. unless w (countsOf s list table)) v);
-          out = sym (ap (λ w. left w (reduced s list table) (held .out)) v);
-          colours = sym (ap (λ w. left w (coloursOf s list table) (held .colours)) v);
-          ends = sym (ap (λ w. left w (endsOf list) (held .ends)) v);
-          set = sym (ap (λ w. left w (wordsOf (membersOf s list table)) (held .set)) v);
-          preserved = λ p. absurd (not-passed number index (sym v ∙ p));
-        }
+  pub refused-promise : {number index : ℕ} → verdictOf s list table held ≡ verdict.Refused number index → Optimized s list table held held (Refused number index)
+  refused-promise {number} {index} v =
+      record {
+        answer = sym (ap (λ u. unless u (countsOf s list table)) v);
+        out = sym (ap (λ u. left u (reduced s list table) (held .out)) v);
+        colours = sym (ap (λ u. left u (coloursOf s list table) (held .colours)) v);
+        ends = sym (ap (λ u. left u (endsOf list) (held .ends)) v);
+        set = sym (ap (λ u. left u (wordsOf (membersOf s list table)) (held .set)) v);
+        preserved = λ p. absurd (not-passed number index (sym v ∙ p));
+      }

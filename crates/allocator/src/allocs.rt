@@ -106,10 +106,6 @@ pub fn update_allocs(allocs: [Alloc; 32], action: Action, l: Loc, x: u32, y: u32
         Action::Save => save(allocs, l, x),
         Action::SaveComplex => save_complex(allocs, l, x, y),
         Action::Clear => reset_allocs(),
-        Action::Mov => allocs,
-        Action::Load => allocs,
-        Action::LoadComplex => allocs,
-        Action::LoadArgs => allocs,
-        Action::Other => allocs,
+        _ => allocs,
     }
 }

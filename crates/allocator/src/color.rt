@@ -92,13 +92,8 @@ fn want_x(action: Action, l: Loc, held: Held) -> Held
 {
     match action {
         Action::Mov => held,
-        Action::Load => Held::At(l),
-        Action::LoadComplex => Held::At(l),
-        Action::Save => Held::Nothing,
-        Action::SaveComplex => Held::Nothing,
-        Action::LoadArgs => Held::Nothing,
-        Action::Clear => Held::Nothing,
-        Action::Other => Held::Nothing,
+        Action::Load | Action::LoadComplex => Held::At(l),
+        _ => Held::Nothing,
     }
 }
 
@@ -109,13 +104,7 @@ fn want_y(action: Action, l: Loc) -> Held
 {
     match action {
         Action::LoadComplex => Held::At(partner(l)),
-        Action::Mov => Held::Nothing,
-        Action::Load => Held::Nothing,
-        Action::Save => Held::Nothing,
-        Action::SaveComplex => Held::Nothing,
-        Action::LoadArgs => Held::Nothing,
-        Action::Clear => Held::Nothing,
-        Action::Other => Held::Nothing,
+        _ => Held::Nothing,
     }
 }
 

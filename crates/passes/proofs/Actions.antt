@@ -1,33 +1,29 @@
--- Two actions are the same, or they are not.
--- Each has a number, and the number gives it back.
+-- An action is known by its tag, its place in the enum: two are the same, or they are not; and what holds at each tag that
+-- an arm of a match takes holds in the arm.
+-- The tag gives the action back.
 use Prim.Native.Nat.{ℕ}
-use mathlib.Core.List.{[], _∷_}
-use mathlib.Core.Logic.{_⊎_, inl, inr}
-use mathlib.Core.Path.{_≡_, refl, sym, ap, _∙_}
+use mathlib.Core.List.{List, [], _∷_}
+use mathlib.Core.Logic.{_⊎_, inl, inr, ⊎-elim}
+use mathlib.Core.Path.{_≡_, refl, sym, ap, subst, _∙_}
 use lib.ListN.{getD}
+use denote.Enum.Declared.{tagOf}
+use types.Run.{OneOf}
+use Rattle.mir.proofs.shape.Action.{the-type}
 use Rattle.mir.specs.declared.shape.Action.{Action}
 use Rattle.mir.specs.declared.shape.Action.the-variants as action
 use Rattle.passes.proofs.Update.{same-or}
 
-number : Action → ℕ
-number action.Mov = 0
-number action.Load = 1
-number action.Save = 2
-number action.LoadComplex = 3
-number action.SaveComplex = 4
-number action.LoadArgs = 5
-number action.Clear = 6
-number action.Other = 7
+abbrev pub tag : Action → ℕ
+tag a = tagOf the-type a
 
-numbered : ℕ → Action
-numbered n =
+abbrev pub tagged : ℕ → Action
+tagged k =
     getD
     (action.Mov ∷ action.Load ∷ action.Save ∷ action.LoadComplex ∷ action.SaveComplex ∷ action.LoadArgs ∷ action.Clear ∷ [])
-    n
+    k
     action.Other
 
-back : (a : Action) → numbered (number a) ≡ a
-unfolding number numbered
+back : (a : Action) → tagged (tag a) ≡ a
 back action.Mov = refl
 back action.Load = refl
 back action.Save = refl
@@ -38,8 +34,22 @@ back action.Clear = refl
 back action.Other = refl
 
 pub same-action : (a b : Action) → (a ≡ b) ⊎ (a ≡ b → ⊥)
-same-action a b = go (same-or (number a) (number b))
+same-action a b = go (same-or (tag a) (tag b))
   where
-    go : (number a ≡ number b) ⊎ (number a ≡ number b → ⊥) → (a ≡ b) ⊎ (a ≡ b → ⊥)
-    go (inl e) = inl (sym (back a) ∙ (ap numbered e ∙ back b))
-    go (inr h) = inr (λ e. h (ap number e))
+    go : (tag a ≡ tag b) ⊎ (tag a ≡ tag b → ⊥) → (a ≡ b) ⊎ (a ≡ b → ⊥)
+    go (inl e) = inl (sym (back a) ∙ (ap tagged e ∙ back b))
+    go (inr h) = inr (λ e. h (ap tag e))
+
+-- ---- an arm of a match
+
+abbrev pub AtEach : (Action → Type 0) → List ℕ → Type 0
+AtEach P [] = Unit {0}
+AtEach P (k ∷ ks) = P (tagged k) × AtEach P ks
+
+at-tag : (P : Action → Type 0) (k : ℕ) (a : Action) → P (tagged k) → tag a ≡ k → P a
+at-tag P k a p e = subst P (ap tagged (sym e) ∙ back a) p
+
+pub in-arm : (P : Action → Type 0) (ks : List ℕ) → AtEach P ks → (a : Action) → OneOf ks (tag a) → P a
+in-arm P [] h a o = absurd o
+in-arm P (k ∷ []) h a o = at-tag P k a (h .0) o
+in-arm P (k ∷ j ∷ ks) h a o = ⊎-elim (at-tag P k a (h .0)) (in-arm P (j ∷ ks) (h .1) a) o
