@@ -7,7 +7,8 @@ use mathlib.Core.Path.{_≡_, refl, sym, ap, subst, _∙_}
 use native.Mathlib.Numerals.{add-one}
 use native.Mathlib.Omega.{arith}
 use lib.ListN.{length, getD, set, take, drop, length-append, length-drop, length-map, take-append-drop, List·getD-append, drop-of-length-le}
-use lib.Seq.{length-take-le, take-all, drop-cons, take-suc, append-snoc, set-at, set-append-left, getD-at, drop-append-add, take-append-seam, drop-drop}
+use lib.Seq.{length-take-le, take-all, drop-cons, take-suc, append-snoc, set-at, set-append-left, getD-at, drop-append-add}
+use lib.Seq.{take-append-seam, drop-drop}
 use Rattle.allocator.specs.Optimize.{over}
 
 pub over-nil : (old : List ℕ) → over [] old ≡ old

@@ -3,19 +3,19 @@
 use Prim.Native.Nat.{ℕ, _*_}
 use mathlib.Core.Bool.{true}
 use mathlib.Core.List.{List}
-use mathlib.Core.Path.{_≡_, refl, sym, ap, subst, _∙_}
+use mathlib.Core.Path.{_≡_, refl, sym, ap, _∙_}
 use native.Mathlib.Omega.{arith}
 use lib.ListN.{length, take}
 use Rattle.mir.specs.declared.config.Settings.{Settings}
 use Rattle.mir.specs.declared.questions.Verdict.the-variants as verdict
-use Rattle.mir.specs.Answers.{answered, refused, unless}
+use Rattle.mir.specs.Answers.{answered, unless}
 use Rattle.mir.specs.Records.{records, fixedMark}
 use Rattle.mir.proofs.Passing.{not-passed, room-passes}
 use Rattle.passes.specs.declared.alloc.Outcome.the-variants.{Kept}
 use Rattle.passes.specs.Color.{setup}
 use Rattle.passes.specs.Contract.{reduced, coloursOf, membersOf, countOf}
 use Rattle.passes.specs.Create.{endsOf}
-use Rattle.passes.specs.Machine.{Passing, EndsEqual, run}
+use Rattle.passes.specs.Machine.{Passing}
 use Rattle.passes.proofs.Lengths.{reduced-length}
 use Rattle.passes.proofs.Preserved.{preserved}
 use Rattle.allocator.specs.declared.Answer.the-variants.{Reduced, Refused}

@@ -1,7 +1,7 @@
 -- The read set: what joins it is in it from then on, it has no repeats, and a record adds to it what it reads.
 -- By induction on what joins, and then on the records.
 use Prim.Native.Nat.{ℕ, zero, suc, _+_, _-_, _≤_, _<_}
-use mathlib.Core.Bool.{Bool, true, false, cond, _||_, not, or-true, or-assoc}
+use mathlib.Core.Bool.{Bool, true, false, cond, _||_, not, or-true, or-false, or-assoc}
 use mathlib.Core.List.{List, [], _∷_, _++_}
 use mathlib.Core.Logic.{_⊎_, inl, inr, ⊎-elim}
 use mathlib.Core.Path.{_≡_, refl, sym, subst, _∙_}
@@ -46,6 +46,16 @@ member-append l (m ∷ ms) ks h = go (sameLoc m l) refl (member-append l ms ks)
 pub member-last : (l : Loc) (ms ks : List Loc) → isMember l (ms ++ l ∷ ks) ≡ true
 member-last l [] ks = member-here l ks
 member-last l (m ∷ ms) ks = member-there l m (ms ++ l ∷ ks) (member-last l ms ks)
+
+pub member-either : (k : Loc) (ms ks : List Loc) → isMember k (ms ++ ks) ≡ (isMember k ms || isMember k ks)
+unfolding isMember
+member-either k [] ks = refl
+member-either k (m ∷ ms) ks = rw (member-either k ms ks) (sym (or-assoc (sameLoc m k) (isMember k ms) (isMember k ks)))
+
+-- one location more at the end
+pub member-snoc : (k l : Loc) (ms : List Loc) → isMember k (ms ++ l ∷ []) ≡ (isMember k ms || sameLoc l k)
+unfolding isMember
+member-snoc k l ms = rw (member-either k ms (l ∷ []), or-false (sameLoc l k))
 
 -- a member is one of the locations
 pub member-in : (l : Loc) (ms : List Loc) → isMember l ms ≡ true → InLocs l ms
@@ -95,11 +105,6 @@ or-both : (a b : Bool) → (a || b) ≡ false → (a ≡ false) × (b ≡ false)
 or-both true b h = (h, cc)
 or-both false b h = (refl, h)
 
-member-either : (k : Loc) (ms ks : List Loc) → isMember k (ms ++ ks) ≡ (isMember k ms || isMember k ks)
-unfolding isMember
-member-either k [] ks = refl
-member-either k (m ∷ ms) ks = rw (member-either k ms ks) (sym (or-assoc (sameLoc m k) (isMember k ms) (isMember k ks)))
-
 other-way : (l m : Loc) → sameLoc m l ≡ false → sameLoc l m ≡ false
 other-way l m h = go (sameLoc l m) refl
   where
@@ -115,7 +120,7 @@ unfolding isMember
 once-last [] l h o = (refl, tt)
 once-last (m ∷ ms) l h o =
     let b = or-both (sameLoc m l) (isMember l ms) h in
-    (rw (member-either m ms (l ∷ []), o .0, other-way l m (b .0)), once-last ms l (b .1) (o .1))
+    (rw (member-snoc m l ms, o .0, other-way l m (b .0)), once-last ms l (b .1) (o .1))
 
 join-once : (ms : List Loc) (l : Loc) → Once ms → Once (join ms l)
 join-once ms l o = go (isMember l ms) refl

@@ -9,7 +9,7 @@ use native.Mathlib.Numerals.{add-one}
 use native.Mathlib.Omega.{arith}
 use lib.ListN.{length, getD, set}
 use Rattle.mir.specs.Records.{isGen}
-use Rattle.mir.specs.Renaming.{one, gens}
+use Rattle.mir.specs.Renaming.{gens}
 use Rattle.allocator.specs.Optimize.{over}
 use Rattle.allocator.specs.Inner.Walks.{mark, marked, unmarked}
 use Rattle.allocator.proofs.color.Dests.{marked-at, marked-length}

@@ -1,9 +1,9 @@
 -- Locations as pairs of words: reading them back, one more of them, whether one is among them.
 -- By induction on the number of pairs; a list without its first two words has the pairs from the second on.
 use Prim.Native.Nat.{ℕ, zero, suc, _+_, _*_, _-_, _<_, _≤_}
-use mathlib.Core.Bool.{Bool, true, false, cond, _||_}
+use mathlib.Core.Bool.{Bool, true, false, cond}
 use mathlib.Core.List.{List, [], _∷_, _++_}
-use mathlib.Core.Logic.{⊎-elim}
+use mathlib.Core.Logic.{_⊎_, ⊎-elim}
 use mathlib.Core.Path.{_≡_, refl, sym, ap, subst, _∙_}
 use native.Mathlib.Nat.{add-zero, zero-add, add-suc, suc-add}
 use native.Mathlib.Numerals.{add-one}
@@ -13,6 +13,7 @@ use Rattle.mir.proofs.Folds.{below-suc}
 use Rattle.passes.specs.declared.symbol.Loc.{Loc}
 use Rattle.passes.specs.Color.{loc, sameLoc, pairsFrom, isMember, join, joined}
 use Rattle.passes.proofs.Members.{pairs-length}
+use Rattle.passes.proofs.ReadSet.{member-snoc}
 use Rattle.allocator.specs.Optimize.{over, wordsOf}
 use Rattle.allocator.proofs.Over.{over-next, over-length, over-over}
 
@@ -67,35 +68,24 @@ words-same (a ∷ b ∷ t) (suc n) h =
 
 -- ---- members
 
-member-next : (l m : Loc) (ms : List Loc) → isMember l (ms ++ m ∷ []) ≡ (isMember l ms || sameLoc m l)
-unfolding isMember
-member-next l m [] = or-false (sameLoc m l)
-  where
-    or-false : (b : Bool) → (b || false) ≡ b
-    or-false true = refl
-    or-false false = refl
-member-next l m (k ∷ ms) = rw (member-next l m ms) (or-assoc (sameLoc k l) (isMember l ms) (sameLoc m l))
-  where
-    or-assoc : (a b c : Bool) → (a || (b || c)) ≡ (a || b || c)
-    or-assoc true b c = refl
-    or-assoc false b c = refl
-
 module _ (t : List ℕ) (l : Loc) where
   pub member-none : false ≡ isMember l (pairsFrom t 0 0)
   unfolding isMember pairsFrom
   member-none = refl
 
   pub member-more : (j : ℕ) (b : Bool) → isMember l (pairsFrom t 0 j) ≡ false → sameLoc (pairAt t j) l ≡ b → isMember l (pairsFrom t 0 (j + 1)) ≡ b
-  member-more j b h e = rw (add-one j, pairs-next t 0 j, member-next l (pairAt t (0 + j)) (pairsFrom t 0 j), h, zero-add j) e
+  member-more j b h e = rw (add-one j, pairs-next t 0 j, member-snoc l (pairAt t (0 + j)) (pairsFrom t 0 j), h, zero-add j) e
 
   pub member-stays : (j n : ℕ) → j ≤ n → isMember l (pairsFrom t 0 j) ≡ true → isMember l (pairsFrom t 0 n) ≡ true
   member-stays j zero h e = subst (λ k. isMember l (pairsFrom t 0 k) ≡ true) (le-zero j h) e
     where
       le-zero : (k : ℕ) → k ≤ 0 → k ≡ 0
       le-zero k q = omega arith
-  member-stays j (suc n) h e = ⊎-elim (λ (k : j < suc n). rw (pairs-next t 0 n, member-next l (pairAt t (0 + n)) (pairsFrom t 0 n), member-stays j n (omega arith) e)) (λ (k : j ≡ suc n). rw (← k) e) (le-or j n h)
+  member-stays j (suc n) h e =
+      ⊎-elim (λ (k : j < suc n). rw (pairs-next t 0 n, member-snoc l (pairAt t (0 + n)) (pairsFrom t 0 n), member-stays j n (omega arith) e))
+      (λ (k : j ≡ suc n). rw (← k) e) (le-or j n h)
     where
-      le-or : (j n : ℕ) → j ≤ suc n → mathlib.Core.Logic._⊎_ (j < suc n) (j ≡ suc n)
+      le-or : (j n : ℕ) → j ≤ suc n → (j < suc n) ⊎ (j ≡ suc n)
       le-or j n q = below-suc (omega arith)
 
 -- ---- joining
@@ -182,7 +172,9 @@ module _ {old words : List ℕ} {count : ℕ} {members : List Loc} (h : SetHolds
       → words' ≡ over (wordsOf ks) words → count' ≡ length ks → SetHolds old words' count' ks
   set-grows ks l r e f =
       record {
-        starts = e ∙ (ap (over (wordsOf ks)) (h .starts) ∙ over-over (wordsOf ks) (wordsOf members) old (rw (words-length members, words-length ks) (omega (arith, l))));
+        starts =
+            let more : length (wordsOf members) ≤ length (wordsOf ks) = rw (words-length members, words-length ks) (omega (arith, l)) in
+            e ∙ (ap (over (wordsOf ks)) (h .starts) ∙ over-over (wordsOf ks) (wordsOf members) old more);
         counted = f;
         room = r;
       }

@@ -20,7 +20,8 @@ use Rattle.passes.specs.declared.alloc.Outcome.{Outcome}
 use Rattle.passes.specs.declared.alloc.Outcome.the-variants.{Kept, Nop, Load, Move, Save}
 use Rattle.passes.specs.declared.alloc.Held.{Held}
 use Rattle.passes.specs.declared.symbol.Loc.{Loc}
-use Rattle.passes.specs.Color.{Coloring, Setup, setup, choiceFor, afterDest, destsAt, colorTo, choose, chosen, assign, isFound, sourceWord, heldBy, wantX, wantY, wanted, updateAllocs, locOf, reads, pairsFrom, isMember}
+use Rattle.passes.specs.Color.{Coloring, Setup, setup, choiceFor, afterDest, destsAt, colorTo, choose, chosen, assign, isFound, sourceWord}
+use Rattle.passes.specs.Color.{heldBy, wantX, wantY, wanted, updateAllocs, locOf, reads, pairsFrom, isMember}
 use Rattle.passes.specs.Contract.{outcomeOf, coloursOf, membersOf, countOf, reduced}
 use Rattle.passes.specs.Create.{endsOf}
 use Rattle.passes.specs.Machine.{Passing}

@@ -23,10 +23,14 @@ loop-holds c = (search needs, c .good .0 .1 .0 .1, mapped-zero _ _)
 loop-again : tie.Need-loop-again Inv-loop μ-loop
 loop-again c =
     let b = c .before .before .before in
+    let inv = b .loop .inv in
+    let k = b .loop .c in
+    let all = b .before .args .allocs in
     let f = without (b .before .args .l) in
-    let h : b .loop .c < length (b .before .args .allocs) = omega (arith, b .loop .inv .1, c .before .before .loop-test .taken) in
-    let e = ap f (ap (λ xs. getD xs (b .loop .c) (alloc 0 Nothing)) (b .loop .inv .2) ∙ mapped-at f (b .before .args .allocs) (b .loop .c) (alloc 0 Nothing) h) in
-    (search needs, b .loop .inv .1, ap (λ xs. set xs (b .loop .c) (c .without .result)) (b .loop .inv .2) ∙ (ap (λ a. set (mappedTo f (b .before .args .allocs) (b .loop .c)) (b .loop .c) a) (c .without .ensures ∙ e) ∙ mapped-next f (b .before .args .allocs) (b .loop .c) (alloc 0 Nothing) h))
+    let h : k < length all = omega (arith, inv .1, c .before .before .loop-test .taken) in
+    let e = ap f (ap (λ xs. getD xs k (alloc 0 Nothing)) (inv .2) ∙ mapped-at f all k (alloc 0 Nothing) h) in
+    let stored = ap (λ xs. set xs k (c .without .result)) (inv .2) ∙ ap (set (mappedTo f all k) k) (c .without .ensures ∙ e) in
+    (search needs, inv .1, stored ∙ mapped-next f all k (alloc 0 Nothing) h)
 
 returns : tie.Need-returns Inv-loop μ-loop
 returns c =

@@ -5,8 +5,8 @@ use Rattle.allocator.proofs.allocs.save_complex.Tie as tie
 
 returns : tie.Need-returns
 returns c =
-    rw (← (c .before .before .before .before .partner .ensures), ← (c .before .before .before .clear .ensures), ← (c .before .before .clear2 .ensures), ← (c .before .give .ensures))
-    (c .give2 .ensures)
+    let b = c .before .before in
+    rw (← (b .before .before .partner .ensures), ← (b .before .clear .ensures), ← (b .clear2 .ensures), ← (c .before .give .ensures)) (c .give2 .ensures)
 
 pub save-complex-spec : {M : Type 1} → statement M
 save-complex-spec =

@@ -1,22 +1,32 @@
 -- `allocator::locs::contains` meets its contract: the index tells of a near location, and the scan of any other.
-use Rattle.allocator.specs.Inner.Walks.{rowOf}
-use native.Mathlib.Omega.{arith}
-use Rattle.allocator.proofs.locs.Index.{cell-in, row-in}
-use mathlib.Core.Path.{sym, _∙_}
+-- By the index's law.
+use mathlib.Core.Bool.{true}
+use mathlib.Core.Path.{_≡_, sym, _∙_}
 use borrow.Author.Needs.{needs}
+use Rattle.allocator.specs.Inner.Walks.{isNear, rowOf}
+use Rattle.allocator.proofs.locs.Index.{byte-in}
 use Rattle.allocator.proofs.locs.contains.Statement.{statement}
 use Rattle.allocator.proofs.locs.contains.Tie as tie
 
+-- where the location is near
+abbrev start : tie.Then1 → tie.Start
+start b = b .before .before .before .before
+
+near : (b : tie.Then1) → isNear (rowOf (start b .args .seen .now)) (start b .args .l) ≡ true
+near b = sym (b .before .is-near .ensures) ∙ b .if1 .taken
+
 cell-requires : tie.Need-cell-requires
-cell-requires c κs = (sym (c .before .is-near .ensures) ∙ c .if1 .taken, search needs)
+cell-requires c κs = (near c, search needs)
 
 shared-slice-read-result : tie.Need-shared-slice-read-result
 shared-slice-read-result c =
-    let seen = c .before .before .before .before .before .before .args .seen .now in
-    rw (c .before .cell .ensures) (omega (arith, cell-in (rowOf seen) (c .before .before .before .before .before .before .args .l) (sym (c .before .before .before .is-near .ensures) ∙ c .before .before .if1 .taken), row-in seen))
+    let b = c .before .before in
+    rw (c .before .cell .ensures) (byte-in (start b .args .seen .now) (start b .args .l) (near b))
 
 returns : tie.Need-returns
-returns c = rw (c .before .cell .ensures) (c .before .before .before .before .before .before .pre .0 (c .before .before .before .before .before .before .args .l) (sym (c .before .before .before .is-near .ensures) ∙ c .before .before .if1 .taken))
+returns c =
+    let b = c .before .before in
+    rw (c .before .cell .ensures) (start b .pre .0 (start b .args .l) (near b))
 
 pub contains-spec : {M : Type 1} → statement M
 contains-spec =

@@ -1,22 +1,30 @@
 -- `allocator::locs::note` meets its contract: a near location has its byte in the index.
-use Rattle.allocator.specs.Inner.Walks.{rowOf}
-use native.Mathlib.Omega.{arith}
-use Rattle.allocator.proofs.locs.Index.{cell-in, row-in}
-use mathlib.Core.Path.{refl, sym, _∙_}
+-- By the index's law.
+use mathlib.Core.Bool.{true}
+use mathlib.Core.Path.{_≡_, refl, sym, _∙_}
 use borrow.Author.Needs.{needs}
+use Rattle.allocator.specs.Inner.Walks.{isNear, rowOf}
+use Rattle.allocator.proofs.locs.Index.{byte-in}
 use Rattle.allocator.proofs.locs.note.Statement.{statement}
 use Rattle.allocator.proofs.locs.note.Tie as tie
 
+-- where the location is near
+abbrev start : tie.Then1 → tie.Start
+start b = b .before .before .before
+
+near : (b : tie.Then1) → isNear (rowOf (start b .args .seen .now)) (start b .args .l) ≡ true
+near b = sym (b .before .is-near .ensures) ∙ b .if1 .taken
+
 cell-requires : tie.Need-cell-requires
-cell-requires c κs = (sym (c .before .is-near .ensures) ∙ c .if1 .taken, search needs)
+cell-requires c κs = (near c, search needs)
 
 slice-write-seen : tie.Need-slice-write-seen
 slice-write-seen c =
-    let seen = c .before .before .before .before .args .seen .now in
-    rw (c .cell .ensures) (omega (arith, cell-in (rowOf seen) (c .before .before .before .before .args .l) (sym (c .before .before .is-near .ensures) ∙ c .before .if1 .taken), row-in seen))
+    let b = c .before in
+    rw (c .cell .ensures) (byte-in (start b .args .seen .now) (start b .args .l) (near b))
 
 returns : tie.Need-returns
-returns c = rw (c .cell .ensures, sym (c .before .before .is-near .ensures) ∙ c .before .if1 .taken) refl
+returns c = rw (c .cell .ensures, near (c .before)) refl
 
 returns-2 : tie.Need-returns-2
 returns-2 c = rw (sym (c .before .is-near .ensures) ∙ c .if1 .left) refl

@@ -25,7 +25,8 @@ returns c =
     let b = c .before .before .before .before in
     let a = b .before .before .args in
     let e = sym (ap (λ m. sameLoc m (a .l)) (c .before .before .loc-at .ensures)) ∙ (sym (c .before .same-loc .ensures) ∙ c .if1 .taken) in
-    sym (member-stays (now (a .set)) (a .l) _ (a .members) (omega (arith, c .before .before .before .loop-test .taken)) (member-more (now (a .set)) (a .l) (b .loop .j) true (b .loop .inv .1) e))
+    let found = member-more (now (a .set)) (a .l) (b .loop .j) true (b .loop .inv .1) e in
+    sym (member-stays (now (a .set)) (a .l) _ (a .members) (omega (arith, c .before .before .before .loop-test .taken)) found)
 
 loop-again : tie.Need-loop-again Inv-loop μ-loop
 loop-again c =

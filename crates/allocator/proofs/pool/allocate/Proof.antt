@@ -13,15 +13,17 @@ returns : tie.Need-returns
 unfolding plainChoice
 returns c =
     let f = c .before .before .before in
-    let e : none ≡ firstBelow (λ k. isFree (f .before .args .i) (f .before .args .allocs) k && isBare (f .before .args .allocs) k) (f .before .args .n) = sym (ap placed (c .before .enum-told .given .1)) ∙ f .first .ensures in
+    let a = f .before .args in
+    let e : none ≡ firstBelow (λ k. isFree (a .i) (a .allocs) k && isBare (a .allocs) k) (a .n) = sym (ap placed (c .before .enum-told .given .1)) ∙ f .first .ensures in
     rw (← e) (c .allocate-free .ensures)
 
 returns-2 : tie.Need-returns-2
 unfolding plainChoice
 returns-2 c =
     let f = c .before .before .before in
+    let a = f .before .args in
     let e = sym (ap placed (c .before .bare .given .1)) ∙ f .first .ensures in
-    ap (λ o. freeOr o (freeOr (firstBelow (isFree (f .before .args .i) (f .before .args .allocs)) (f .before .args .n)) Empty)) e
+    ap (λ o. freeOr o (freeOr (firstBelow (isFree (a .i) (a .allocs)) (a .n)) Empty)) e
 
 pub allocate-spec : {M : Type 1} → statement M
 allocate-spec =

@@ -31,7 +31,8 @@ returns : tie.Need-returns Inv-loop μ-loop
 returns c =
     let b = c .before .before .before .before in
     let a = b .before .args in
-    sym (first-stops (at (a .criterion) (a .i) (a .t1)) (a .n) (b .loop .c) (c .before .before .before .loop-test .taken) (b .loop .inv .1) (sym (c .before .meets .ensures) ∙ c .if1 .taken))
+    let met = sym (c .before .meets .ensures) ∙ c .if1 .taken in
+    sym (first-stops (at (a .criterion) (a .i) (a .t1)) (a .n) (b .loop .c) (c .before .before .before .loop-test .taken) (b .loop .inv .1) met)
 
 loop-again : tie.Need-loop-again Inv-loop μ-loop
 loop-again c =
