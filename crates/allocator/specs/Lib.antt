@@ -1,3 +1,3 @@
--- What `optimize` promises; in Inner, what only the functions inside say.
+-- Public: what `optimize` promises. Inner stands apart: what only the functions inside say.
 pub mod Optimize
 pub mod Inner

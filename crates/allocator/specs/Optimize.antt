@@ -1,4 +1,4 @@
--- Document 01, sections 4, 5, 7 and 10: what `optimize` answers, and what the lent slices then hold.
+-- Public, document 01, sections 4, 5, 7 and 10: what `optimize` answers, and what the lent slices then hold.
 use Prim.Native.Nat.{ℕ, _+_, _*_, _/_}
 use mathlib.Core.Bool.{Bool, _&&_}
 use mathlib.Core.List.{List, [], _∷_, _++_}

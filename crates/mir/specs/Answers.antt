@@ -1,4 +1,4 @@
--- What an operation answers, in document 01's terms: the answer's values, or the number of the question that refused
+-- Public: what an operation answers, in document 01's terms: the answer's values, or the number of the question that refused
 -- the list and the index of its first bad record.
 use Prim.Native.Nat.{ℕ}
 use mathlib.Core.List.{List}

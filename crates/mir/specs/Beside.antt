@@ -1,4 +1,4 @@
--- Document 01, section 6: the used registers, and the place of a label.
+-- Public, document 01, section 6: the used registers, and the place of a label.
 use Prim.Native.Nat.{ℕ, zero, suc, _^_}
 use mathlib.Core.Bool.{Bool, cond, _&&_}
 use mathlib.Core.List.{List, [], _∷_}

@@ -1,4 +1,4 @@
--- The words that the definitions are put in: each of, the first no, the last such.
+-- Public: the words that the definitions are put in: each of, the first no, the last such.
 use Prim.Native.Nat.{ℕ, zero, suc}
 use mathlib.Core.Bool.{Bool, true, false, cond, _&&_}
 use mathlib.Core.List.{List, [], _∷_}

@@ -1,4 +1,4 @@
--- What a reader must believe of records, settings and the nine questions; the files go in document 01's order.
+-- Public: what a reader must believe of records, settings and the nine questions; the files go in document 01's order.
 pub mod Records
 pub mod Shapes
 pub mod Renaming

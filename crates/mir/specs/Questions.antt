@@ -1,4 +1,4 @@
--- Document 01, section 7: the questions put to a list before it is reduced, and the refusal that they come to.
+-- Public, document 01, section 7: the questions put to a list before it is reduced, and the refusal that they come to.
 use Prim.Native.Nat.{ℕ, _+_, _*_, _/_, _%_}
 use mathlib.Core.Bool.{Bool, true, false, cond, _&&_}
 use mathlib.Core.List.{List, [], _∷_}

@@ -1,4 +1,4 @@
--- Document 01, section 1: a list of words is a row of records of 8 words; registers, locations, settings.
+-- Public, document 01, section 1: a list of words is a row of records of 8 words; registers, locations, settings.
 use Prim.Native.Nat.{ℕ, _+_, _*_, _/_}
 use mathlib.Core.Bool.{Bool, cond}
 use mathlib.Core.List.{List}

@@ -1,4 +1,4 @@
--- Document 01, section 1: the 21 kinds, and what each word of a record is by its kind.
+-- Public, document 01, section 1: the 21 kinds, and what each word of a record is by its kind.
 use Prim.Native.Nat.{ℕ, _+_}
 use mathlib.Core.List.{List, [], _∷_}
 use lib.ListN.{getD, take, drop}

@@ -1,4 +1,5 @@
--- Document 01, section 3: colouring. A colour's life says up to where it is needed; it may hold the value of one location.
+-- Public, document 01, section 3: colouring. A colour's life says up to where it is needed; it may hold the value of one
+-- location.
 use Prim.Native.Nat.{ℕ, zero, suc, _+_, _*_, _<_, max}
 use mathlib.Core.Bool.{Bool, true, false, cond, _&&_, _||_, not}
 use mathlib.Core.List.{List, [], _∷_, _++_, map}
@@ -12,7 +13,7 @@ use Rattle.mir.specs.declared.rename.Current.{Current}
 use Rattle.mir.specs.declared.rename.Current.the-variants.{Static, Unset}
 use Rattle.mir.specs.declared.shape.Action.{Action}
 use Rattle.mir.specs.declared.shape.Action.the-variants as action
-use Rattle.mir.specs.Records.{recordAt, wordAt, isGen, maxRegs}
+use Rattle.mir.specs.Records.{records, recordAt, wordAt, isGen, maxRegs}
 use Rattle.mir.specs.Renaming.{regsTo}
 use Rattle.mir.specs.Shapes.{shapeFor, dests, sources}
 use Rattle.passes.specs.declared.alloc.Alloc.{Alloc}

@@ -1,12 +1,12 @@
--- Document 01, section 4: contracting. What becomes of each record, the reduced list, and the counts.
+-- Public, document 01, section 4: contracting. What becomes of each record, the reduced list, and the counts.
 use Prim.Native.Nat.{ℕ, zero, suc, _+_, _-_}
-use mathlib.Core.Bool.{Bool, true, false, cond, _&&_, not}
+use mathlib.Core.Bool.{Bool, true, false, cond, _&&_, _||_, not}
 use mathlib.Core.List.{List, [], _++_}
 use lib.Dec.{leb, eqb}
 use Rattle.mir.specs.declared.config.Settings.{Settings}
 use Rattle.mir.specs.declared.shape.Action.{Action}
 use Rattle.mir.specs.declared.shape.Action.the-variants as action
-use Rattle.mir.specs.Records.{records, wordAt, fixedMark}
+use Rattle.mir.specs.Records.{records, recordAt, wordAt, fixedMark}
 use Rattle.mir.specs.Shapes.{shapeFor, nop, mov, save, saveComplex}
 use Rattle.passes.specs.declared.alloc.Outcome.{Outcome}
 use Rattle.passes.specs.declared.alloc.Outcome.the-variants.{Kept, Nop, Load, Move, Save}

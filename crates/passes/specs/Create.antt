@@ -1,5 +1,5 @@
--- Document 01, section 2: renaming. `regsTo` and `staticsTo` (crate mir) say which static each register holds before a
--- record, and how many there are; here are the statics' ends.
+-- Public, document 01, section 2: renaming. `regsTo` and `staticsTo` (crate mir) say which static each register holds before
+-- a record, and how many there are; here are the statics' ends.
 use Prim.Native.Nat.{ℕ, zero, suc}
 use mathlib.Core.Bool.{cond}
 use mathlib.Core.List.{List, [], _∷_, _++_}

@@ -1,6 +1,6 @@
--- Document 01, section 5: the plain machine for demand 3.
+-- Public, document 01, section 5: the plain machine for demand 3.
 use Prim.Native.Nat.{ℕ, zero, suc, _<_, _≤_, _^_}
-use mathlib.Core.Bool.{Bool, true, cond, _&&_, _||_, not}
+use mathlib.Core.Bool.{Bool, true, false, cond, _&&_, _||_, not}
 use mathlib.Core.List.{List, [], _∷_}
 use mathlib.Core.Path.{_≡_}
 use lib.Dec.{leb, eqb}

@@ -1,4 +1,4 @@
--- Document 01, section 8: the file, made of little-endian words of 32 bits, and what reducing it gives.
+-- Public, document 01, section 8: the file, made of little-endian words of 32 bits, and what reducing it gives.
 use Prim.Native.Nat.{ℕ, zero, suc, _+_, _*_, _/_, _%_, _^_}
 use mathlib.Core.Bool.{Bool, cond, _&&_}
 use mathlib.Core.List.{List, [], _∷_, _++_}

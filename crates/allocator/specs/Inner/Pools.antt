@@ -1,4 +1,4 @@
--- What a choice looks for (document 01, section 3), as the code puts it.
+-- Inner: what a choice looks for (document 01, section 3), as the code puts it.
 use Prim.Native.Nat.{ℕ}
 use mathlib.Core.Bool.{Bool, _&&_}
 use mathlib.Core.Option.{Option, some, none}

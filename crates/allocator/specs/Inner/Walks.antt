@@ -1,5 +1,4 @@
--- For the functions inside: what a walk needs to know, and what it does to the lent slices. `optimize` promises nothing in
--- these words.
+-- Inner: what a walk needs to know, and what it does to the lent slices. `optimize` promises nothing in these words.
 use Prim.Native.Nat.{ℕ, zero, suc, _+_, _*_, _/_, _%_, _<_, _≤_}
 use mathlib.Core.Bool.{Bool, true, false, cond, _&&_, not}
 use mathlib.Core.List.{List, [], _∷_, _++_, map}
