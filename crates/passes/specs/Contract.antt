@@ -73,7 +73,7 @@ coloursOf s list table = colorTo (setup s list table) (records list) .colours
 unfoldable pub membersOf : Settings → List ℕ → List ℕ → List Loc
 membersOf s list table = readSet (setup s list table)
 
--- how many of the first n records have a outcome
+-- how many of the first n records have an outcome
 abbrev pub outcomeNumber : Outcome → ℕ
 outcomeNumber Kept = 0
 outcomeNumber Nop = 1
