@@ -1,4 +1,8 @@
 -- The theorems about the definitions, and the laws that the code's proofs cite.
+-- lists by computation, and the Arm flag
+pub mod Cases
+pub mod Lists
+pub mod Arm
 -- renaming, colouring, the read set and contracting
 pub mod Update
 pub mod Actions
@@ -20,7 +24,3 @@ pub mod Agreement
 pub mod Steps
 pub mod Runs
 pub mod Preserved
--- lists by computation, and the Arm flag
-pub mod Cases
-pub mod Lists
-pub mod Arm
