@@ -20,7 +20,7 @@ pub mod NeverEmpty
 -- demand 3
 pub mod Sim
 pub mod Assign
-pub mod Agreement
+pub mod OneRecord
 pub mod Steps
 pub mod Runs
 pub mod Preserved

@@ -24,7 +24,7 @@ use Rattle.passes.specs.declared.symbol.Loc.{Loc}
 use Rattle.passes.specs.Color.{Setup, setup, colorTo, colourAt, blank}
 use Rattle.passes.specs.Contract.{isKept, outcomeAt, outAt, reducedTo, reduced, countTo}
 use Rattle.passes.specs.Machine.{Meaning, State, turn, runTo, run, isScalar, AllScalar, Passing, EndsEqual}
-use Rattle.passes.proofs.Agreement.{Running, Place}
+use Rattle.passes.proofs.OneRecord.{Running, Place}
 use Rattle.passes.proofs.Create.{not-fresh}
 use Rattle.passes.proofs.Lengths.{out-length, reduced-length}
 use Rattle.passes.proofs.Locations.{blank-nothing}

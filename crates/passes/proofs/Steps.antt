@@ -27,8 +27,8 @@ use Rattle.passes.specs.Color.{loc, colourAt, isFound, heldBy, holds, cl
 use Rattle.passes.specs.Contract.{outcomeOf, outAt, outcomeAt, isKept, readSet, isBeyond}
 use Rattle.passes.specs.Create.{endsOf}
 use Rattle.passes.specs.Machine.{Word, Meaning, State, write, finish, effect, turn, isTrue, isScalar, EndsEqual}
-use Rattle.passes.proofs.Agreement.{Running, Place, OneDest, Before, count, made, state, rec, regs, src, choice, dst, Looked}
-use Rattle.passes.proofs.Agreement.{source-same, source-small, cell-same, dest-after, none-after}
+use Rattle.passes.proofs.OneRecord.{Running, Place, OneDest, Before, count, made, state, rec, regs, src, choice, dst, Looked}
+use Rattle.passes.proofs.OneRecord.{source-same, source-small, cell-same, dest-after, none-after}
 use Rattle.passes.proofs.Assign.{Live, Lives, numberIn, heldIn}
 use Rattle.passes.proofs.Choice.{choose-found, loc-same}
 use Rattle.passes.proofs.Create.{In}
