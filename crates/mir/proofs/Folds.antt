@@ -1,17 +1,18 @@
--- `allBelow` and `firstRefusal` as a walk meets them: one more index, the index that fails, the index that decides.
+-- `allBelow` and `firstRefusal` as a loop meets them: nothing passed, one more, the first that fails, the end.
 -- By induction on the count; the code's `n + 1` is the definitions' `suc n`.
 use Prim.Native.Nat.{ℕ, zero, suc, _+_, _<_, _≤_}
-use mathlib.Core.Bool.{Bool, true, false, cond, _&&_, and-false, and-true, and-assoc}
+use mathlib.Core.Bool.{Bool, true, false, cond, not, _&&_, and-false, and-true, and-assoc}
+use mathlib.Core.List.{List, [], _∷_, _++_}
 use mathlib.Core.Logic.{_⊎_, inl, inr, ⊎-elim}
-use mathlib.Core.Path.{_≡_, refl, sym, ap, _∙_}
+use mathlib.Core.Path.{_≡_, refl, sym, _∙_}
 use native.Mathlib.Numerals.{add-one}
 use native.Mathlib.Omega.{arith}
 use native.Mathlib.Decide.{decLt}
-use Rattle.mir.specs.declared.questions.Verdict.{Verdict}
-use Rattle.mir.specs.declared.questions.Verdict.the-variants.{Passed, Refused}
-use mathlib.Core.List.{List, [], _∷_, _++_}
 use lib.ListN.{length, getD, take, drop, length-drop}
 use lib.Seq.{take-suc, getD-drop}
+use borrow.Author.Tests.{not-true, not-false}
+use Rattle.mir.specs.declared.questions.Verdict.{Verdict}
+use Rattle.mir.specs.declared.questions.Verdict.the-variants.{Passed, Refused}
 use Rattle.mir.specs.Folds.{allBelow, all, refusedAt, orElse, firstRefusal}
 
 -- n < suc m: below m, or m itself
@@ -23,20 +24,12 @@ below-suc {n} {m} h = go (decLt n m)
     go (no g) = inr (omega (arith, g))
 
 module _ (p : ℕ → Bool) where
-  pub all-none : allBelow 0 p ≡ true
-  unfolding allBelow
-  all-none = refl
-
-  pub all-more : (n : ℕ) → allBelow n p ≡ true → p n ≡ true → allBelow (n + 1) p ≡ true
-  unfolding allBelow
-  all-more n a h = rw (add-one, a, h)
-
   pub all-each : (n : ℕ) → ((j : ℕ) → j < n → p j ≡ true) → allBelow n p ≡ true
   unfolding allBelow
   all-each zero h = refl
   all-each (suc n) h = rw (all-each n (λ j l. h j (omega arith)), h n (omega arith))
 
-  pub all-fails : (n j : ℕ) → j < n → p j ≡ false → allBelow n p ≡ false
+  all-fails : (n j : ℕ) → j < n → p j ≡ false → allBelow n p ≡ false
   unfolding allBelow
   all-fails zero j l h = absurd (omega arith)
   all-fails (suc n) j l h =
@@ -49,6 +42,27 @@ module _ (p : ℕ → Bool) where
       go : (b : Bool) → p j ≡ b → b ≡ true
       go true e = refl
       go false e = cc (all-fails n j l e)
+
+-- a walk up to n that stops at the first number for which p fails: p holds of each number below j
+pub record Holds (p : ℕ → Bool) (n j : ℕ) : Type 0 where
+  pub within : j ≤ n
+  pub passed : allBelow j p ≡ true
+
+pub holds-none : {p : ℕ → Bool} {n : ℕ} → Holds p n 0
+unfolding allBelow
+holds-none = record { within = omega arith; passed = refl }
+
+pub holds-more : {p : ℕ → Bool} {n j : ℕ} → Holds p n j → j < n → p j ≡ true → Holds p n (j + 1)
+unfolding allBelow
+holds-more h l e = record { within = omega arith; passed = rw (add-one, h .passed, e) }
+
+pub holds-stops : {p : ℕ → Bool} {n j : ℕ} → Holds p n j → j < n → p j ≡ false → false ≡ allBelow n p
+holds-stops {p} {n} {j} h l e = sym (all-fails p n j l e)
+
+pub holds-ends : {p : ℕ → Bool} {n j : ℕ} → Holds p n j → n ≤ j → true ≡ allBelow n p
+holds-ends {p} {n} {j} h l =
+    let e : j ≡ n = omega arith in
+    sym (rw e at (h .passed))
 
 module _ (p : ℕ → Bool) where
   pub all-append : (xs ys : List ℕ) → all p (xs ++ ys) ≡ (all p xs && all p ys)
@@ -80,15 +94,26 @@ pub said-yes : (b : Bool) (k : ℕ) {n : ℕ} → n ≡ cond b 0 (suc k) → n �
 said-yes true k e h = refl
 said-yes false k e h = absurd (omega arith)
 
+-- a test that a function answers, and the branch on its answer
+pub answered-no : {r b : Bool} → r ≡ b → not r ≡ true → b ≡ false
+answered-no e h = sym e ∙ not-true _ h
+
+pub answered-yes : {r b : Bool} → r ≡ b → not r ≡ false → b ≡ true
+answered-yes e h = sym e ∙ not-false _ h
+
 -- ---- record by record
 
-module _ (by : ℕ → ℕ) where
-  pub refusal-more : (n : ℕ) → firstRefusal by n ≡ Passed → by n ≡ 0 → firstRefusal by (n + 1) ≡ Passed
-  unfolding firstRefusal
-  refusal-more n a h = rw (add-one, a, h)
+pub both-passed : (v w : Verdict) → orElse v w ≡ Passed → (v ≡ Passed) × (w ≡ Passed)
+both-passed Passed w e = (refl, e)
+both-passed (Refused number index) w e = (e, cc)
 
+pub none-refused : (n i : ℕ) → refusedAt n i ≡ Passed → n ≡ 0
+none-refused zero i e = refl
+none-refused (suc n) i e = cc
+
+module _ (by : ℕ → ℕ) where
   -- the first record with a no decides for every longer list
-  pub refusal-stops : (n j : ℕ) → j < n → firstRefusal by j ≡ Passed → (by j ≡ 0 → ⊥) → firstRefusal by n ≡ Refused (by j) j
+  refusal-stops : (n j : ℕ) → j < n → firstRefusal by j ≡ Passed → (by j ≡ 0 → ⊥) → firstRefusal by n ≡ Refused (by j) j
   unfolding firstRefusal
   refusal-stops zero j l a h = absurd (omega arith)
   refusal-stops (suc n) j l a h =
@@ -103,13 +128,26 @@ module _ (by : ℕ → ℕ) where
   unfolding firstRefusal
   refusal-none zero j a l = absurd (omega arith)
   refusal-none (suc n) j a l =
-      ⊎-elim (λ (k : j < n). refusal-none n j (both (firstRefusal by n) (refusedAt (by n) n) a .0) k)
-      (λ (e : j ≡ n). rw e (zero-of (by n) n (both (firstRefusal by n) (refusedAt (by n) n) a .1))) (below-suc l)
-    where
-      both : (v w : Verdict) → orElse v w ≡ Passed → (v ≡ Passed) × (w ≡ Passed)
-      both Passed w e = (refl, e)
-      both (Refused m i) w e = (e, cc)
+      let b = both-passed (firstRefusal by n) (refusedAt (by n) n) a in
+      ⊎-elim (λ (k : j < n). refusal-none n j (b .0) k) (λ (e : j ≡ n). rw e (none-refused (by n) n (b .1))) (below-suc l)
 
-      zero-of : (m i : ℕ) → refusedAt m i ≡ Passed → m ≡ 0
-      zero-of zero i e = refl
-      zero-of (suc m) i e = cc
+-- a walk over n records that stops at the first refusal: none below i is refused; k is what the code has for record i
+pub record Unrefused (by : ℕ → ℕ) (n i : ℕ) : Type 0 where
+  pub within : i ≤ n
+  pub passed : firstRefusal by i ≡ Passed
+
+pub unrefused-none : {by : ℕ → ℕ} {n : ℕ} → Unrefused by n 0
+unfolding firstRefusal
+unrefused-none = record { within = omega arith; passed = refl }
+
+pub unrefused-more : {by : ℕ → ℕ} {n i k : ℕ} → Unrefused by n i → i < n → k ≡ by i → k ≡ 0 → Unrefused by n (i + 1)
+unfolding firstRefusal
+unrefused-more u l e z = record { within = omega arith; passed = rw (add-one, u .passed, sym e ∙ z) }
+
+pub unrefused-stops : {by : ℕ → ℕ} {n i k : ℕ} → Unrefused by n i → i < n → k ≡ by i → (k ≡ 0 → ⊥) → Refused k i ≡ firstRefusal by n
+unrefused-stops {by} {n} {i} u l e h = rw e (sym (refusal-stops by n i l (u .passed) (λ z. h (e ∙ z))))
+
+pub unrefused-ends : {by : ℕ → ℕ} {n i : ℕ} → Unrefused by n i → n ≤ i → Passed ≡ firstRefusal by n
+unrefused-ends {by} {n} {i} u l =
+    let e : i ≡ n = omega arith in
+    sym (rw e at (u .passed))

@@ -1,21 +1,19 @@
 -- The mask of used registers: a Gen below the register limit is one bit, and a word's ones are counted in 32 digits.
 -- By the library's laws of powers, of `bitOr` and of `ones`.
 use Prim.Native.Nat.{ℕ, zero, suc, _+_, _*_, _/_, _%_, _^_, _≤_, _<_}
-use mathlib.Core.Bool.{Bool, true, false, cond, _&&_}
 use mathlib.Core.List.{List, [], _∷_}
-use mathlib.Core.Path.{_≡_, refl, sym, ap, _∙_}
+use mathlib.Core.Path.{_≡_, sym, ap, _∙_}
 use native.Mathlib.Nat.{mod-eq-of-lt, one-mul}
 use native.Mathlib.Omega.{arith}
 use lib.Bits.{bitOr, or-zero-r}
 use lib.Count.{ones, onesIn, ones-step}
-use lib.Dec.{ltb, eqb}
-use lib.ListN.{length, getD}
+use lib.ListN.{length}
 use lib.Pow.{pow-lt}
 use borrow.Author.Tests.{lt-ltb, le-ltb, eq-eqb, ne-eqb}
 use Rattle.mir.specs.Beside.{bits, counted, maskOf, getDst}
 use Rattle.mir.specs.Folds.{all}
 use Rattle.mir.specs.Records.{wordAt, maxRegs}
-use Rattle.mir.specs.Shapes.{branchIf, shapeOf, shapeFor, dests, sources}
+use Rattle.mir.specs.Shapes.{branchIf, shapeOf, dests, sources}
 use Rattle.mir.proofs.Shapes.{sources-are}
 
 pub bit-is : (w : ℕ) → w < maxRegs → 1 * 2 ^ w % 4294967296 ≡ 2 ^ w

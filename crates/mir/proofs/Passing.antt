@@ -1,9 +1,9 @@
 -- What a record that passes its questions is known by, and how the questions that two operations share go together.
 -- By the answers' cases; the register questions carry over from fewer registers to more.
-use Prim.Native.Nat.{ℕ, suc, _+_, _%_, _≤_, _<_}
+use Prim.Native.Nat.{ℕ, zero, suc, _%_, _≤_, _<_}
 use mathlib.Core.Bool.{Bool, true, false, cond, _&&_}
-use mathlib.Core.List.{List, [], _∷_}
-use mathlib.Core.Path.{_≡_, refl}
+use mathlib.Core.List.{List, [], _∷_, _++_}
+use mathlib.Core.Path.{_≡_, refl, sym, _∙_}
 use native.Mathlib.Omega.{arith}
 use lib.ListN.{length, getD}
 use lib.Dec.{ltb, leb, eqb}
@@ -12,41 +12,50 @@ use Rattle.mir.specs.declared.config.Settings.{Settings}
 use Rattle.mir.specs.declared.questions.Verdict.{Verdict}
 use Rattle.mir.specs.declared.questions.Verdict.the-variants.{Passed, Refused}
 use Rattle.mir.specs.declared.rename.Current.{Current}
-use Rattle.mir.specs.Folds.{all, firstNo, refusedAt, orElse, firstRefusal}
-use Rattle.mir.specs.Questions.{fewRegisters, fewArgs, wellSized, knownKind, fieldsFit, genFits, gensFit, partnerFits, sourcesNamed, shapeNo, recordNo, shapeBy, recordBy, shapeRefusal, recordRefusal, refusalBeside, refusal}
+use Rattle.mir.specs.Folds.{all, firstNo, refusedAt, firstRefusal}
+use Rattle.mir.specs.Questions.{fewRegisters, fewArgs, wellSized, knownKind, fieldsFit, genFits, gensFit, partnerFits, sourcesNamed}
+use Rattle.mir.specs.Questions.{shapeNo, recordNo, shapeBy, recordBy, shapeRefusal, recordRefusal, refusalBeside, refusal}
 use Rattle.mir.specs.Records.{isGen, maxRegs, records, recordAt}
 use Rattle.mir.specs.Renaming.{regsTo}
 use Rattle.mir.specs.Shapes.{registers}
 use Rattle.mir.proofs.Clash.{clash}
-use Rattle.mir.proofs.Folds.{refusal-none}
+use Rattle.mir.proofs.Folds.{both-passed, none-refused, refusal-none}
 use Rattle.mir.proofs.Renaming.{and-both}
 
--- a list of numbered answers: what the first three come to when more follow
-module _ (a b c : Bool) (rest : List (ℕ × Bool)) where
-  three-stop : (n : ℕ) → n ≡ firstNo ((5, a) ∷ (6, b) ∷ (7, c) ∷ []) → (n ≡ 0 → ⊥) → n ≡ firstNo ((5, a) ∷ (6, b) ∷ (7, c) ∷ rest)
-  three-stop = go a b c
-    where
-      go : (a b c : Bool) (n : ℕ) → n ≡ firstNo ((5, a) ∷ (6, b) ∷ (7, c) ∷ []) → (n ≡ 0 → ⊥) → n ≡ firstNo ((5, a) ∷ (6, b) ∷ (7, c) ∷ rest)
-      go true true true n e h = absurd (h e)
-      go true true false n e h = e
-      go true false c n e h = e
-      go false b c n e h = e
+-- ---- numbered answers
 
-  three-pass : firstNo ((5, a) ∷ (6, b) ∷ (7, c) ∷ rest) ≡ 0 → (a ≡ true) × ((b ≡ true) × ((c ≡ true) × (firstNo rest ≡ 0)))
-  three-pass = go a b c
-    where
-      go : (a b c : Bool) → firstNo ((5, a) ∷ (6, b) ∷ (7, c) ∷ rest) ≡ 0 → (a ≡ true) × ((b ≡ true) × ((c ≡ true) × (firstNo rest ≡ 0)))
-      go true true true e = (refl, (refl, (refl, e)))
-      go true true false e = absurd (omega arith)
-      go true false c e = absurd (omega arith)
-      go false b c e = absurd (omega arith)
+-- each answer is yes
+abbrev Yes : List (ℕ × Bool) → Type 0
+Yes [] = Unit {0}
+Yes (q ∷ qs) = (q .1 ≡ true) × Yes qs
 
-two-pass : (a b : Bool) → firstNo ((8, a) ∷ (9, b) ∷ []) ≡ 0 → (a ≡ true) × (b ≡ true)
-two-pass true true e = (refl, refl)
-two-pass true false e = absurd (omega arith)
-two-pass false b e = absurd (omega arith)
+-- no question has the number 0
+abbrev Numbered : List (ℕ × Bool) → Type 0
+Numbered [] = Unit {0}
+Numbered ((zero, b) ∷ qs) = ⊥
+Numbered ((suc n, b) ∷ qs) = Numbered qs
+
+each-yes : (qs : List (ℕ × Bool)) → Numbered qs → firstNo qs ≡ 0 → Yes qs
+each-yes [] t e = tt
+each-yes ((zero, b) ∷ qs) t e = absurd t
+each-yes ((suc n, true) ∷ qs) t e = (refl, each-yes qs t e)
+each-yes ((suc n, false) ∷ qs) t e = absurd (omega arith)
+
+-- a no decides, whatever is asked after it
+first-stops : (qs rest : List (ℕ × Bool)) → (firstNo qs ≡ 0 → ⊥) → firstNo qs ≡ firstNo (qs ++ rest)
+first-stops [] rest h = absurd (h refl)
+first-stops ((n, true) ∷ qs) rest h = first-stops qs rest h
+first-stops ((n, false) ∷ qs) rest h = refl
+
+-- ---- a record
 
 module _ (table : List ℕ) (countRegs : ℕ) (rec : List ℕ) where
+  abbrev shapeAsked : List (ℕ × Bool)
+  shapeAsked = (5, knownKind rec) ∷ (6, fieldsFit table rec) ∷ (7, gensFit countRegs rec) ∷ []
+
+  abbrev lastAsked : List Current → List (ℕ × Bool)
+  lastAsked regs = (8, partnerFits rec) ∷ (9, sourcesNamed regs rec) ∷ []
+
   -- a record that questions 5 to 7 pass
   pub record ShapePasses : Type 0 where
     pub kind : knownKind rec ≡ true
@@ -56,8 +65,8 @@ module _ (table : List ℕ) (countRegs : ℕ) (rec : List ℕ) where
   pub shape-passes : shapeNo table countRegs rec ≡ 0 → ShapePasses
   unfolding shapeNo
   shape-passes e =
-      let p = three-pass (knownKind rec) (fieldsFit table rec) (gensFit countRegs rec) [] e in
-      record { kind = p .0; fields = p .1 .0; gens = p .1 .1 .0 }
+      let y = each-yes shapeAsked tt e in
+      record { kind = y .0; fields = y .1 .0; gens = y .1 .1 .0 }
 
   -- a record that questions 5 to 9 pass
   pub record Passes (regs : List Current) : Type 0 where
@@ -68,17 +77,19 @@ module _ (table : List ℕ) (countRegs : ℕ) (rec : List ℕ) where
   pub record-passes : (regs : List Current) → recordNo table countRegs regs rec ≡ 0 → Passes regs
   unfolding recordNo
   record-passes regs e =
-      let p = three-pass (knownKind rec) (fieldsFit table rec) (gensFit countRegs rec) ((8, partnerFits rec) ∷ (9, sourcesNamed regs rec) ∷ []) e in
-      let q = two-pass (partnerFits rec) (sourcesNamed regs rec) (p .1 .1 .1) in
-      record { shape = record { kind = p .0; fields = p .1 .0; gens = p .1 .1 .0 }; partner = q .0; sources = q .1 }
+      let y = each-yes (shapeAsked ++ lastAsked regs) tt e in
+      record {
+        shape = record { kind = y .0; fields = y .1 .0; gens = y .1 .1 .0 };
+        partner = y .1 .1 .1 .0;
+        sources = y .1 .1 .1 .1 .0;
+      }
 
   -- a no to questions 5 to 7 is the record's, and after three times yes the last two decide
   pub shape-stops : (regs : List Current) (n : ℕ) → n ≡ shapeNo table countRegs rec → (n ≡ 0 → ⊥) → n ≡ recordNo table countRegs regs rec
   unfolding shapeNo recordNo
-  shape-stops regs n = three-stop (knownKind rec) (fieldsFit table rec) (gensFit countRegs rec) ((8, partnerFits rec) ∷ (9, sourcesNamed regs rec) ∷ []) n
+  shape-stops regs n e h = e ∙ first-stops shapeAsked (lastAsked regs) (λ z. h (e ∙ z))
 
-  pub then-last : (regs : List Current) → ShapePasses
-      → recordNo table countRegs regs rec ≡ firstNo ((8, partnerFits rec) ∷ (9, sourcesNamed regs rec) ∷ [])
+  pub then-last : (regs : List Current) → ShapePasses → recordNo table countRegs regs rec ≡ firstNo (lastAsked regs)
   unfolding recordNo
   then-last regs p = rw (p .kind, p .fields, p .gens)
 
@@ -104,7 +115,7 @@ gens-fit-more n m rec l h = all-weaker (genFits n) (genFits m) (λ w. gen-fits-m
 -- inside a list any default reads the same
 pub getD-any {ℓ} : {A : Type ℓ} (l : List A) (i : ℕ) (d e : A) → i < length l → getD l i d ≡ getD l i e
 getD-any [] i d e h = absurd (omega arith)
-getD-any (x ∷ l) Prim.Native.Nat.zero d e h = refl
+getD-any (x ∷ l) zero d e h = refl
 getD-any (x ∷ l) (suc i) d e h = getD-any l i d e (omega arith)
 
 -- question 3 says how long the list and the table can be
@@ -129,34 +140,25 @@ well-sized list table h =
 
 -- ---- a whole list
 
-or-else-passed : (v w : Verdict) → orElse v w ≡ Passed → (v ≡ Passed) × (w ≡ Passed)
-or-else-passed Passed w e = (refl, e)
-or-else-passed (Refused number index) w e = (e, cc)
+module _ (countRegs : ℕ) (list table : List ℕ) where
+  abbrev besideAsked : List (ℕ × Bool)
+  besideAsked = (1, fewRegisters countRegs) ∷ (3, wellSized (length list) (length table)) ∷ []
 
-refused-at-passed : (n i : ℕ) → refusedAt n i ≡ Passed → n ≡ 0
-refused-at-passed Prim.Native.Nat.zero i e = refl
-refused-at-passed (suc n) i e = cc
+  pub record BesidePasses : Type 0 where
+    pub few : countRegs ≤ maxRegs
+    pub sized : Sized (length list) (length table)
+    pub each : (i : ℕ) → i < records list → ShapePasses table countRegs (recordAt list i)
 
-pub record BesidePasses (countRegs : ℕ) (list table : List ℕ) : Type 0 where
-  pub few : countRegs ≤ maxRegs
-  pub sized : Sized (length list) (length table)
-  pub each : (i : ℕ) → i < records list → ShapePasses table countRegs (recordAt list i)
-
-pub beside-passes : (countRegs : ℕ) (list table : List ℕ) → refusalBeside countRegs list table ≡ Passed → BesidePasses countRegs list table
-unfolding refusalBeside shapeRefusal fewRegisters
-beside-passes countRegs list table h =
-    let p = or-else-passed (refusedAt (firstNo ((1, leb countRegs maxRegs) ∷ (3, wellSized (length list) (length table)) ∷ [])) 0) (firstRefusal (shapeBy table countRegs list) (records list)) h in
-    let q = heads (leb countRegs maxRegs) (wellSized (length list) (length table)) (refused-at-passed _ 0 (p .0)) in
-    record {
-      few = leb-true countRegs maxRegs (q .0);
-      sized = well-sized (length list) (length table) (q .1);
-      each = λ i l. shape-passes table countRegs (recordAt list i) (refusal-none (shapeBy table countRegs list) (records list) i (p .1) l);
-    }
-  where
-    heads : (a b : Bool) → firstNo ((1, a) ∷ (3, b) ∷ []) ≡ 0 → (a ≡ true) × (b ≡ true)
-    heads true true e = (refl, refl)
-    heads true false e = absurd (omega arith)
-    heads false b e = absurd (omega arith)
+  pub beside-passes : {v : Verdict} → v ≡ refusalBeside countRegs list table → v ≡ Passed → BesidePasses
+  unfolding refusalBeside shapeRefusal fewRegisters
+  beside-passes h e =
+      let p = both-passed (refusedAt (firstNo besideAsked) 0) (firstRefusal (shapeBy table countRegs list) (records list)) (sym h ∙ e) in
+      let y = each-yes besideAsked tt (none-refused _ 0 (p .0)) in
+      record {
+        few = leb-true countRegs maxRegs (y .0);
+        sized = well-sized (length list) (length table) (y .1 .0);
+        each = λ i l. shape-passes table countRegs (recordAt list i) (refusal-none (shapeBy table countRegs list) (records list) i (p .1) l);
+      }
 
 pub record ListPasses (s : Settings) (list table : List ℕ) : Type 0 where
   pub few : s .«count_regs» ≤ maxRegs
@@ -168,32 +170,28 @@ pub record ListPasses (s : Settings) (list table : List ℕ) : Type 0 where
 pub not-passed : (number index : ℕ) → Refused number index ≡ Passed → ⊥
 not-passed number index q = clash (cc)
 
--- questions 1 to 4 answered yes
-heads : (a b c d : Bool) → firstNo ((1, a) ∷ (2, b) ∷ (3, c) ∷ (4, d) ∷ []) ≡ 0 → (a ≡ true) × ((b ≡ true) × ((c ≡ true) × (d ≡ true)))
-heads true true true true e = (refl, (refl, (refl, refl)))
-heads true true true false e = absurd (omega arith)
-heads true true false d e = absurd (omega arith)
-heads true false c d e = absurd (omega arith)
-heads false b c d e = absurd (omega arith)
+module _ (room : Bool) (s : Settings) (list table : List ℕ) (h : refusal room s list table ≡ Passed) where
+  abbrev asked : List (ℕ × Bool)
+  asked = (1, fewRegisters (s .«count_regs»)) ∷ (2, fewArgs (s .args)) ∷ (3, wellSized (length list) (length table)) ∷ (4, room) ∷ []
 
-pub list-passes : (room : Bool) (s : Settings) (list table : List ℕ) → refusal room s list table ≡ Passed → ListPasses s list table
-unfolding refusal recordRefusal fewRegisters fewArgs
-list-passes room s list table h =
-    let n = s .«count_regs» in
-    let p = or-else-passed (refusedAt (firstNo ((1, leb n maxRegs) ∷ (2, leb (s .args) 65535) ∷ (3, wellSized (length list) (length table)) ∷ (4, room) ∷ [])) 0) (firstRefusal (recordBy table n list) (records list)) h in
-    let q = heads (leb n maxRegs) (leb (s .args) 65535) (wellSized (length list) (length table)) room (refused-at-passed _ 0 (p .0)) in
-    record {
-      few = leb-true n maxRegs (q .0);
-      args = leb-true (s .args) 65535 (q .1 .0);
-      sized = well-sized (length list) (length table) (q .1 .1 .0);
-      each = λ i l. record-passes table n (recordAt list i) (regsTo list i) (refusal-none (recordBy table n list) (records list) i (p .1) l);
-    }
+  -- questions 1 to 4 are answered with yes, and no record is refused
+  passed : (Yes asked) × (recordRefusal table (s .«count_regs») list ≡ Passed)
+  unfolding refusal
+  passed =
+      let p = both-passed (refusedAt (firstNo asked) 0) (recordRefusal table (s .«count_regs») list) h in
+      (each-yes asked tt (none-refused _ 0 (p .0)), p .1)
 
-pub room-passes : (room : Bool) (s : Settings) (list table : List ℕ) → refusal room s list table ≡ Passed → room ≡ true
-unfolding refusal
-room-passes room s list table h =
-    let a = fewRegisters (s .«count_regs») in
-    let b = fewArgs (s .args) in
-    let c = wellSized (length list) (length table) in
-    let p = or-else-passed (refusedAt (firstNo ((1, a) ∷ (2, b) ∷ (3, c) ∷ (4, room) ∷ [])) 0) (recordRefusal table (s .«count_regs») list) h in
-    heads a b c room (refused-at-passed _ 0 (p .0)) .1 .1 .1
+  pub list-passes : ListPasses s list table
+  unfolding recordRefusal fewRegisters fewArgs
+  list-passes =
+      let y = passed .0 in
+      let n = s .«count_regs» in
+      record {
+        few = leb-true n maxRegs (y .0);
+        args = leb-true (s .args) 65535 (y .1 .0);
+        sized = well-sized (length list) (length table) (y .1 .1 .0);
+        each = λ i l. record-passes table n (recordAt list i) (regsTo list i) (refusal-none (recordBy table n list) (records list) i (passed .1) l);
+      }
+
+  pub room-passes : room ≡ true
+  room-passes = passed .0 .1 .1 .1 .0

@@ -1,20 +1,17 @@
--- The renaming of section 2: how many statics there can be, and that the registers keep their number.
--- By induction on the records; a record makes at most two statics.
+-- The renaming of section 2: how many statics there can be, and that the Gen registers of a record that fits are below the count.
+-- By induction on the records, a record making at most two statics; and by the register words, destinations before sources.
 use Prim.Native.Nat.{ℕ, zero, suc, _+_, _*_, _≤_, _<_}
 use mathlib.Core.Bool.{Bool, true, false, cond, _&&_}
 use mathlib.Core.List.{List, [], _∷_, _++_}
-use mathlib.Core.Path.{_≡_, refl, sym, ap, _∙_}
+use mathlib.Core.Path.{_≡_, refl, sym, _∙_}
 use native.Mathlib.Omega.{arith}
-use lib.Dec.{ltb}
-use lib.ListN.{length, take, drop, length-take, length-set}
+use lib.ListN.{length, take, drop, length-take}
 use lib.Seq.{take-add, drop-drop}
 use borrow.Author.Tests.{ltb-true, lt-ltb}
-use Rattle.mir.specs.declared.rename.Current.{Current}
-use Rattle.mir.specs.declared.rename.Current.the-variants.{Static, Unset}
 use Rattle.mir.specs.Folds.{all}
 use Rattle.mir.specs.Questions.{genFits, gensFit}
-use Rattle.mir.specs.Records.{isGen, maxRegs, recordAt, wordAt}
-use Rattle.mir.specs.Renaming.{one, gens, produce, produced, renamed, fresh, staticsTo, regsTo}
+use Rattle.mir.specs.Records.{isGen, recordAt, wordAt}
+use Rattle.mir.specs.Renaming.{one, gens, staticsTo}
 use Rattle.mir.specs.Shapes.{shapeFor, dests, sources, registers}
 use Rattle.mir.proofs.Folds.{all-append}
 use Rattle.mir.proofs.Shapes.{two-dests}
@@ -62,7 +59,7 @@ gens-fit-both n rec h =
 pub gen-below : (n w : ℕ) → genFits n w ≡ true → w < 256 → w < n
 gen-below n w h l = ltb-true w n (rw (lt-ltb w 256 l) at h)
 
--- one destination fits, and both do
+-- the words of a short list that fit are below the count
 pub fits-one : (n x : ℕ) → all (genFits n) (x ∷ []) ≡ true → x < 256 → x < n
 unfolding all
 fits-one n x h = gen-below n x (and-both (genFits n x) true h .0)
@@ -72,3 +69,11 @@ unfolding all
 fits-two n x y h =
     let b = and-both (genFits n x) (all (genFits n) (y ∷ [])) h in
     (gen-below n x (b .0), fits-one n y (b .1))
+
+-- and so are a record's one or two destinations, where its registers fit
+module _ (n : ℕ) (rec : List ℕ) (fit : gensFit n rec ≡ true) where
+  pub dest-below : {x : ℕ} → dests rec ≡ x ∷ [] → x < 256 → x < n
+  dest-below {x} e = fits-one n x (rw e at (gens-fit-both n rec fit .0))
+
+  pub dests-below : {x y : ℕ} → dests rec ≡ x ∷ y ∷ [] → (x < 256 → x < n) × (y < 256 → y < n)
+  dests-below {x} {y} e = fits-two n x y (rw e at (gens-fit-both n rec fit .0))

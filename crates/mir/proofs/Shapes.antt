@@ -1,5 +1,5 @@
 -- The table of shapes: which kinds have no fields, and that a shape's places lie in the record.
--- A rule of the table is one test that computes over the rows, carried to each kind by `each-at`; past the end stands `bare`.
+-- A rule of the table is one test that computes over the rows, carried to each kind by `by-kind`; past the end stands `bare`.
 use Prim.Native.Nat.{ℕ, zero, suc, _+_, _*_, _<_, _≤_}
 use mathlib.Core.Bool.{Bool, true, false, cond, _&&_}
 use mathlib.Core.List.{List, [], _∷_}
@@ -12,8 +12,9 @@ use native.Mathlib.Omega.{arith}
 use lib.ListN.{length, getD, List·getD-eq-default}
 use Rattle.mir.specs.declared.shape.Action.{Action}
 use Rattle.mir.specs.declared.shape.Action.the-variants as action
+use Rattle.mir.specs.declared.shape.Dests.{Dests}
 use Rattle.mir.specs.declared.shape.Shape.{Shape}
-use Rattle.mir.specs.Shapes.{shapeOf, shapes, bare, reg, loadArgs, shapeFor, dests, sources}
+use Rattle.mir.specs.Shapes.{shapeOf, shapes, bare, reg, loadArgs, shapeFor, dests, sources, listed}
 use Rattle.mir.specs.Folds.{allBelow}
 use Rattle.mir.proofs.Folds.{all-at}
 use Rattle.mir.proofs.Records.{tabulate, words-at}
@@ -28,9 +29,16 @@ pub bare-past : (k : ℕ) → 21 ≤ k → bare ≡ shapeOf k
 unfolding shapeOf
 bare-past k h = rw (List·getD-eq-default shapes bare h) refl
 
--- one key after the other is ruled out
-pub after : {m k : ℕ} → m ≤ k → (k ≡ m → ⊥) → suc m ≤ k
-after h r = omega arith
+-- k is none of the n keys from m on, in the form in which a `match` leaves it
+abbrev NoKey : ℕ → ℕ → ℕ → Type 0
+NoKey k m zero = Unit {0}
+NoKey k m (suc n) = NoKey k m n × (k ≡ m + n → ⊥)
+
+pub past-keys : (k m n : ℕ) → m ≤ k → NoKey k m n → m + n ≤ k
+past-keys k m zero h r = omega arith
+past-keys k m (suc n) h r = omega (arith, past-keys k m n h (r .0), r .1)
+
+-- ---- a rule of the table: a test that computes over the rows, and holds of the shape past the end
 
 and-left : (a b : Bool) → T (a && b) → T a
 and-left true b h = tt
@@ -40,84 +48,10 @@ and-right : (a b : Bool) → T (a && b) → T b
 and-right true b h = h
 and-right false b h = absurd h
 
-each : (Shape → Bool) → List Shape → Bool
-each p [] = true
-each p (x ∷ l) = p x && each p l
+pub truth : (b : Bool) → T b → b ≡ true
+truth true q = refl
+truth false q = absurd q
 
-each-at : (p : Shape → Bool) (l : List Shape) (d : Shape) → T (each p l) → T (p d) → (k : ℕ) → T (p (getD l k d))
-unfolding each
-each-at p [] d h e k = e
-each-at p (x ∷ l) d h e zero = and-left (p x) (each p l) h
-each-at p (x ∷ l) d h e (suc k) = each-at p l d (and-right (p x) (each p l) h) e k
-
--- one rule that each row is tested for, as an order of numbers
-rule : (left right : Shape → ℕ) → T (each (λ s. leb (left s) (right s)) (bare ∷ shapes)) → (k : ℕ) → left (shapeOf k) ≤ right (shapeOf k)
-unfolding shapeOf each
-rule left right h k =
-    leb→le _ (right (getD shapes k bare))
-    (each-at (λ s. leb (left s) (right s)) shapes bare (and-right (leb (left bare) (right bare)) _ h) (and-left (leb (left bare) (right bare)) _ h) k)
-
--- the register words lie in the record, and so does the location; there are at most two destinations
-pub regs-in-record : (k : ℕ) → shapeOf k .regs + (shapeOf k .dsts + shapeOf k .srcs) ≤ 8
-unfolding each
-regs-in-record k = rule (λ s. s .regs + (s .dsts + s .srcs)) (λ s. 8) tt k
-
-pub loc-in-record : (k : ℕ) → shapeOf k .loc + 2 ≤ 8
-unfolding each
-loc-in-record k = rule (λ s. s .loc + 2) (λ s. 8) tt k
-
-pub two-dests : (k : ℕ) → shapeOf k .dsts ≤ 2
-unfolding each
-two-dests k = rule (λ s. s .dsts) (λ s. 2) tt k
-
-module _ (rec : List ℕ) (s : Shape) (same : s ≡ shapeFor rec) (len : length rec ≡ 8) where
-  room : s .regs + (s .dsts + s .srcs) ≤ 8
-  room = rw same (regs-in-record _)
-
-  -- the destinations, and the sources, word by word
-  pub dests-are : dests rec ≡ tabulate (s .dsts) (λ p. getD rec (s .regs + p) 0)
-  unfolding dests
-  dests-are = rw (← same) (words-at rec (s .dsts) (s .regs) (omega (arith, room)))
-
-  pub sources-are : sources rec ≡ tabulate (s .srcs) (λ p. getD rec (s .regs + s .dsts + p) 0)
-  unfolding sources
-  sources-are = rw (← same) (words-at rec (s .srcs) (s .regs + s .dsts) (omega (arith, room)))
-
--- where there are registers, they stand after the kind; and where a register stands, a field may be any register
-test : (p : Shape → Bool) → T (each p (bare ∷ shapes)) → (k : ℕ) → T (p (shapeOf k))
-unfolding shapeOf each
-test p h k = each-at p shapes bare (and-right (p bare) _ h) (and-left (p bare) _ h) k
-
-pub regs-after-kind : (k : ℕ) → shapeOf k .dsts + shapeOf k .srcs ≤ shapeOf k .regs * 8
-unfolding each
-regs-after-kind k = rule (λ s. s .dsts + s .srcs) (λ s. s .regs * 8) tt k
-
-is-register : Shape → ℕ → Bool
-is-register s p = leb (s .regs) p && ltb p (s .regs + (s .dsts + s .srcs))
-
-any-register : Shape → Bool
-unfolding is-register
-any-register s = allBelow 8 (λ p. cond (is-register s p) (eqb (getD (s .most) p 0) reg) true)
-
-pub register-limit : (k p : ℕ) → shapeOf k .regs ≤ p → p < shapeOf k .regs + (shapeOf k .dsts + shapeOf k .srcs)
-    → getD (shapeOf k .most) p 0 ≡ reg
-unfolding any-register is-register each allBelow
-register-limit k p h l =
-    let s = shapeOf k in
-    let t = true-of (any-register s) (test any-register tt k) in
-    let f = all-at (λ q. cond (is-register s q) (eqb (getD (s .most) q 0) reg) true) 8 p t (omega (arith, regs-in-record k)) in
-    eqb-true _ reg (rw (le-leb (s .regs) p h, lt-ltb p (s .regs + (s .dsts + s .srcs)) l) at f)
-  where
-    true-of : (b : Bool) → T b → b ≡ true
-    true-of true q = refl
-    true-of false q = absurd q
-
--- LoadArgs has no register words
-pub args-bare : shapeOf loadArgs .regs + (shapeOf loadArgs .dsts + shapeOf loadArgs .srcs) ≡ 0
-unfolding shapeOf
-args-bare = refl
-
--- a rule of the rows by their kinds
 unfoldable pub each-from : (ℕ → Shape → Bool) → ℕ → List Shape → Bool
 each-from p n [] = true
 each-from p n (x ∷ l) = p n x && each-from p (suc n) l
@@ -139,6 +73,73 @@ by-kind p h b k = go (decLt k 21)
     go (no l) =
         let q : 21 ≤ k = omega (arith, l) in
         rw (List·getD-eq-default shapes bare q) (b k)
+
+-- a rule that is an order of numbers and does not speak of the kind
+rule : (left right : Shape → ℕ) → T (each-from (λ n s. leb (left s) (right s)) 0 shapes) → T (leb (left bare) (right bare))
+    → (k : ℕ) → left (shapeOf k) ≤ right (shapeOf k)
+rule left right h b k = leb→le _ _ (by-kind (λ n s. leb (left s) (right s)) h (λ n. b) k)
+
+-- ---- places in the record
+
+-- the register words lie in the record, and so does the location; there are at most two destinations
+pub regs-in-record : (k : ℕ) → shapeOf k .regs + (shapeOf k .dsts + shapeOf k .srcs) ≤ 8
+unfolding each-from
+regs-in-record = rule (λ s. s .regs + (s .dsts + s .srcs)) (λ s. 8) tt tt
+
+pub loc-in-record : (k : ℕ) → shapeOf k .loc + 2 ≤ 8
+unfolding each-from
+loc-in-record = rule (λ s. s .loc + 2) (λ s. 8) tt tt
+
+pub two-dests : (k : ℕ) → shapeOf k .dsts ≤ 2
+unfolding each-from
+two-dests = rule (λ s. s .dsts) (λ s. 2) tt tt
+
+-- where there are registers, they stand after the kind
+pub regs-after-kind : (k : ℕ) → shapeOf k .dsts + shapeOf k .srcs ≤ shapeOf k .regs * 8
+unfolding each-from
+regs-after-kind = rule (λ s. s .dsts + s .srcs) (λ s. s .regs * 8) tt tt
+
+-- the same of a shape in hand
+pub room : (k : ℕ) {s : Shape} → s ≡ shapeOf k → s .regs + (s .dsts + s .srcs) ≤ 8
+room k same = rw same (regs-in-record k)
+
+module _ (rec : List ℕ) (s : Shape) (same : s ≡ shapeFor rec) (len : length rec ≡ 8) where
+  -- the destinations, and the sources, word by word
+  pub dests-are : dests rec ≡ tabulate (s .dsts) (λ p. getD rec (s .regs + p) 0)
+  unfolding dests
+  dests-are = rw (← same) (words-at rec (s .dsts) (s .regs) (omega (arith, room _ same)))
+
+  pub sources-are : sources rec ≡ tabulate (s .srcs) (λ p. getD rec (s .regs + s .dsts + p) 0)
+  unfolding sources
+  sources-are = rw (← same) (words-at rec (s .srcs) (s .regs + s .dsts) (omega (arith, room _ same)))
+
+-- what a `match` on the destinations tells of them
+pub dests-told : {d e : Dests} {ws : List ℕ} → listed d ≡ ws → d ≡ e → ws ≡ listed e
+dests-told h e = sym h ∙ ap listed e
+
+-- where a register stands, the field may be any register
+is-register : Shape → ℕ → Bool
+is-register s p = leb (s .regs) p && ltb p (s .regs + (s .dsts + s .srcs))
+
+any-register : Shape → Bool
+unfolding is-register
+any-register s = allBelow 8 (λ p. cond (is-register s p) (eqb (getD (s .most) p 0) reg) true)
+
+pub register-limit : (k p : ℕ) → shapeOf k .regs ≤ p → p < shapeOf k .regs + (shapeOf k .dsts + shapeOf k .srcs)
+    → getD (shapeOf k .most) p 0 ≡ reg
+unfolding any-register is-register each-from allBelow
+register-limit k p h l =
+    let s = shapeOf k in
+    let t = truth (any-register s) (by-kind (λ n. any-register) tt (λ n. tt) k) in
+    let f = all-at (λ q. cond (is-register s q) (eqb (getD (s .most) q 0) reg) true) 8 p t (omega (arith, regs-in-record k)) in
+    eqb-true _ reg (rw (le-leb (s .regs) p h, lt-ltb p (s .regs + (s .dsts + s .srcs)) l) at f)
+
+-- LoadArgs has no register words
+pub args-bare : shapeOf loadArgs .regs + (shapeOf loadArgs .dsts + shapeOf loadArgs .srcs) ≡ 0
+unfolding shapeOf
+args-bare = refl
+
+-- ---- kinds by their actions
 
 is-args : Action → Bool
 is-args action.LoadArgs = true
@@ -169,14 +170,12 @@ isComplex action.LoadArgs = false
 isComplex action.Clear = false
 isComplex action.Other = false
 
-pub truth : (b : Bool) → T b → b ≡ true
-truth true q = refl
-truth false q = absurd q
-
 -- only kinds 7 and 8 have two halves, and their location stands at 3
 pub complex-kind : (k : ℕ) → isComplex (shapeOf k .action) ≡ true → ((leb 7 k && leb k 8) ≡ true) × (shapeOf k .loc ≡ 3)
 unfolding each-from
 complex-kind k e =
+    let a = leb 7 k && leb k 8 in
+    let b = eqb (shapeOf k .loc) 3 in
     let t = by-kind (λ n s. cond (isComplex (s .action)) (leb 7 n && leb n 8 && eqb (s .loc) 3) true) tt (λ n. tt) k in
-    let f : T (leb 7 k && leb k 8 && eqb (shapeOf k .loc) 3) = rw e at t in
-    (truth (leb 7 k && leb k 8) (and-left (leb 7 k && leb k 8) (eqb (shapeOf k .loc) 3) f), eqb→eq (shapeOf k .loc) 3 (and-right (leb 7 k && leb k 8) (eqb (shapeOf k .loc) 3) f))
+    let f : T (a && b) = rw e at t in
+    (truth a (and-left a b f), eqb→eq _ 3 (and-right a b f))

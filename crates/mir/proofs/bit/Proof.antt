@@ -1,7 +1,6 @@
 -- `mir::bit` meets its contract: the shift by a register below the limit is its power of two.
 use mathlib.Core.Path.{sym, _∙_}
 use Rattle.mir.proofs.Masks.{bit-is, mask-one, mask-named}
-use borrow.Author.Needs.{needs}
 use Rattle.mir.proofs.bit.Statement.{statement}
 use Rattle.mir.proofs.bit.Tie as tie
 

@@ -1,33 +1,43 @@
 -- `mir::get_dst` meets its contract: BranchIf counts its condition, any other record its destinations.
-use mathlib.Core.Path.{_≡_, sym, ap, _∙_}
-use lib.ListN.{length, getD}
-use Rattle.mir.specs.Records.{maxRegs}
+-- Each arm has the destinations that its pattern tells.
+use mathlib.Core.List.{[], _∷_}
+use mathlib.Core.Path.{_≡_, sym, _∙_}
+use lib.ListN.{length}
+use borrow.Author.Needs.{needs}
 use Rattle.mir.specs.Beside.{maskOf, bits}
 use Rattle.mir.specs.Folds.{all}
-use Rattle.mir.specs.Shapes.{listed}
+use Rattle.mir.specs.Records.{maxRegs}
+use Rattle.mir.specs.Shapes.{dests}
 use Rattle.mir.proofs.Masks.{branch-if-source, counts-condition, counts-dests}
-use Rattle.mir.proofs.Renaming.{gens-fit-both, fits-one, fits-two}
-use borrow.Author.Needs.{needs}
+use Rattle.mir.proofs.Renaming.{gens-fit-both, fits-one, dest-below, dests-below}
+use Rattle.mir.proofs.Shapes.{dests-told}
 use Rattle.mir.proofs.get_dst.Statement.{statement}
 use Rattle.mir.proofs.get_dst.Tie as tie
+
+abbrev start : tie.After-dests-of → tie.Start
+start d = d .before .before
+
+one : (a : tie.After-x) → dests (start (a .before .before) .args .t1) ≡ a .x .given .0 .0 ∷ []
+one a = dests-told (a .before .before .dests-of .ensures) (a .x .given .1)
+
+two : (a : tie.After-x2) → dests (start (a .before .before) .args .t1) ≡ a .x2 .given .0 .0 ∷ a .x2 .given .0 .1 .0 ∷ []
+two a = dests-told (a .before .before .dests-of .ensures) (a .x2 .given .1)
 
 bit-requires : tie.Need-bit-requires
 bit-requires c κs =
     let s = c .before in
     let len : length (s .args .t1) ≡ 8 = s .good .0 .1 .0 .1 in
-    fits-one maxRegs (getD (s .args .t1) 1 0) (rw (branch-if-source (s .args .t1) len (c .match .keys1)) at (gens-fit-both maxRegs (s .args .t1) (s .pre) .1))
+    fits-one maxRegs _ (rw (branch-if-source (s .args .t1) len (c .match .keys1)) at (gens-fit-both maxRegs _ (s .pre) .1))
 
 bit-requires-2 : tie.Need-bit-requires-2
 bit-requires-2 c κs =
-    let x = c .before in
-    let s = x .before .before .before .before in
-    fits-one maxRegs (x .x .given .0 .0) (rw (sym (x .before .before .dests-of .ensures) ∙ ap listed (x .x .given .1)) at (gens-fit-both maxRegs (s .args .t1) (s .pre) .0))
+    let a = c .before in
+    dest-below maxRegs _ (start (a .before .before) .pre) (one a)
 
 two-bits-requires : tie.Need-two-bits-requires
 two-bits-requires c κs =
-    let x = c .before in
-    let s = x .before .before .before .before in
-    fits-two maxRegs (x .x2 .given .0 .0) (x .x2 .given .0 .1 .0) (rw (sym (x .before .before .dests-of .ensures) ∙ ap listed (x .x2 .given .1)) at (gens-fit-both maxRegs (s .args .t1) (s .pre) .0))
+    let a = c .before in
+    dests-below maxRegs _ (start (a .before .before) .pre) (two a)
 
 returns : tie.Need-returns
 returns c =
@@ -39,19 +49,17 @@ returns-2 : tie.Need-returns-2
 unfolding maskOf all bits
 returns-2 c =
     let d = c .before .before in
-    rw (counts-dests (d .before .before .args .t1) (d .before .match .rest .1), sym (d .dests-of .ensures) ∙ ap listed (c .enum-told .given .1))
+    rw (counts-dests _ (d .before .match .rest .1), dests-told (d .dests-of .ensures) (c .enum-told .given .1))
 
 returns-3 : tie.Need-returns-3
 returns-3 c =
-    let x = c .before .before in
-    let d = x .before .before in
-    rw (counts-dests (d .before .before .args .t1) (d .before .match .rest .1), sym (d .dests-of .ensures) ∙ ap listed (x .x .given .1)) (c .bit2 .ensures)
+    let a = c .before .before in
+    rw (counts-dests _ (a .before .before .before .match .rest .1), one a) (c .bit2 .ensures)
 
 returns-4 : tie.Need-returns-4
 returns-4 c =
-    let x = c .before .before in
-    let d = x .before .before in
-    rw (counts-dests (d .before .before .args .t1) (d .before .match .rest .1), sym (d .dests-of .ensures) ∙ ap listed (x .x2 .given .1)) (c .two-bits .ensures)
+    let a = c .before .before in
+    rw (counts-dests _ (a .before .before .before .match .rest .1), two a) (c .two-bits .ensures)
 
 pub get-dst-spec : {M : Type 1} → statement M
 get-dst-spec =

@@ -1,6 +1,6 @@
 -- `mir::last_label` meets its contract: the place found so far is the last of the records passed.
 use Prim.Native.Nat.{ℕ, _/_, _-_, _≤_}
-use mathlib.Core.Path.{_≡_, refl, sym, ap, _∙_}
+use mathlib.Core.Path.{_≡_, refl}
 use native.Mathlib.Numerals.{add-one}
 use native.Mathlib.Omega.{arith}
 use denote.Ref.{now}
@@ -53,9 +53,6 @@ last-label-spec =
     μ-loop
     loop-holds
     (λ c κs. omega arith)
-    (λ c. search needs)
-    (λ c κs. search needs)
-    (λ c. search needs)
-    (λ c. search needs)
+    (λ c. search needs) (λ c κs. search needs) (λ c. search needs) (λ c. search needs)
     loop-again
     returns)

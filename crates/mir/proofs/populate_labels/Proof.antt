@@ -1,17 +1,13 @@
 -- `mir::populate_labels` meets its contract: a refusal is handed on, and a list that passes has its last such Label.
-use mathlib.Core.Path.{_≡_, sym, ap, _∙_}
-use denote.Ref.{now}
-use Rattle.mir.specs.declared.questions.Verdict.the-variants.{Passed}
+use mathlib.Core.Path.{sym, _∙_}
+use borrow.Author.Needs.{needs}
 use Rattle.mir.specs.Beside.{populateLabels}
 use Rattle.mir.proofs.Passing.{beside-passes}
-use borrow.Author.Needs.{needs}
 use Rattle.mir.proofs.populate_labels.Statement.{statement}
 use Rattle.mir.proofs.populate_labels.Tie as tie
 
 last-label-requires : tie.Need-last-label-requires
-last-label-requires c κs =
-    let a = c .before .before .before .before .before .args in
-    beside-passes (a .settings .«count_regs») (now (a .list)) (now (a .table)) (sym (c .before .before .check-beside .ensures) ∙ c .enum-told .given .1) .sized .small
+last-label-requires c κs = beside-passes _ _ _ (c .before .before .check-beside .ensures) (c .enum-told .given .1) .sized .small
 
 returns : tie.Need-returns
 unfolding populateLabels

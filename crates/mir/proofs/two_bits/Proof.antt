@@ -1,7 +1,6 @@
 -- `mir::two_bits` meets its contract: both registers are Gen, or neither counts.
-use mathlib.Core.Path.{sym, _∙_}
+use mathlib.Core.Path.{sym}
 use Rattle.mir.proofs.Masks.{bit-is, mask-two, mask-named, mask-second-named}
-use borrow.Author.Needs.{needs}
 use Rattle.mir.proofs.two_bits.Statement.{statement}
 use Rattle.mir.proofs.two_bits.Tie as tie
 

@@ -1,6 +1,5 @@
 -- `mir::used_registers` meets its contract: a refusal is handed on, and a list that passes has its mask and the mask's ones.
 use mathlib.Core.Path.{sym, ap, _∙_}
-use denote.Ref.{now}
 use Prim.Native.Nat.{ℕ}
 use mathlib.Core.List.{[], _∷_}
 use lib.Count.{onesIn}
@@ -15,9 +14,8 @@ use Rattle.mir.proofs.used_registers.Tie as tie
 
 used-mask-requires : tie.Need-used-mask-requires
 used-mask-requires c κs =
-    let a = c .before .before .before .before .before .args in
-    let p = beside-passes (a .settings .«count_regs») (now (a .list)) (now (a .table)) (sym (c .before .before .check-beside .ensures) ∙ c .enum-told .given .1) in
-    λ i l. gens-fit-more (a .settings .«count_regs») maxRegs _ (p .few) (p .each i l .gens)
+    let p = beside-passes _ _ _ (c .before .before .check-beside .ensures) (c .enum-told .given .1) in
+    λ i l. gens-fit-more _ maxRegs _ (p .few) (p .each i l .gens)
 
 returns : tie.Need-returns
 unfolding usedRegisters

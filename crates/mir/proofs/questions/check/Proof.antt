@@ -1,10 +1,17 @@
 -- `mir::questions::check` meets its contract: questions 1 to 4 come first, at index 0.
-use mathlib.Core.Path.{sym, _∙_}
+use borrow.Author.Needs.{needs}
 use borrow.Author.Tests.{le-leb, lt-leb, not-true, not-false}
 use Rattle.mir.specs.Questions.{fewRegisters, fewArgs, refusal}
-use borrow.Author.Needs.{needs}
+use Rattle.mir.proofs.Folds.{answered-no, answered-yes}
 use Rattle.mir.proofs.questions.check.Statement.{statement}
 use Rattle.mir.proofs.questions.check.Tie as tie
+
+-- question 1 answered with yes, on the way to question 3; and the call
+abbrev first : tie.After-well-sized → tie.Else1
+first w = w .before .before .before
+
+abbrev start : tie.After-well-sized → tie.Start
+start w = first w .before .before .before .before
 
 returns : tie.Need-returns
 unfolding fewRegisters fewArgs refusal
@@ -18,25 +25,39 @@ returns-3 : tie.Need-returns-3
 unfolding fewRegisters fewArgs refusal
 returns-3 c =
     let w = c .before in
-    simp (le-leb _ _ (w .before .before .before .if1 .left), le-leb _ _ (w .before .if2 .left), sym (w .well-sized .ensures) ∙ not-true _ (c .if3 .taken))
+    simp (
+      le-leb _ _ (first w .if1 .left),
+      le-leb _ _ (w .before .if2 .left),
+      answered-no (w .well-sized .ensures) (c .if3 .taken),
+    )
 
 returns-4 : tie.Need-returns-4
 unfolding fewRegisters fewArgs refusal
 returns-4 c =
     let w = c .before .before in
-    simp (le-leb _ _ (w .before .before .before .if1 .left), le-leb _ _ (w .before .if2 .left), sym (w .well-sized .ensures) ∙ not-false _ (c .before .if3 .left), not-true (w .before .before .before .before .before .before .before .args .room) (c .if4 .taken))
+    simp (
+      le-leb _ _ (first w .if1 .left),
+      le-leb _ _ (w .before .if2 .left),
+      answered-yes (w .well-sized .ensures) (c .before .if3 .left),
+      not-true (start w .args .room) (c .if4 .taken),
+    )
 
 check-records-requires : tie.Need-check-records-requires
 check-records-requires c κs =
     let w = c .before .before in
-    (w .before .before .before .if1 .left, sym (w .well-sized .ensures) ∙ not-false _ (c .before .if3 .left))
+    (first w .if1 .left, answered-yes (w .well-sized .ensures) (c .before .if3 .left))
 
 returns-5 : tie.Need-returns-5
 unfolding fewRegisters fewArgs refusal
 returns-5 c =
     let e = c .before in
     let w = e .before .before in
-    simp (le-leb _ _ (w .before .before .before .if1 .left), le-leb _ _ (w .before .if2 .left), sym (w .well-sized .ensures) ∙ not-false _ (e .before .if3 .left), not-false (w .before .before .before .before .before .before .before .args .room) (e .if4 .left))
+    simp (
+      le-leb _ _ (first w .if1 .left),
+      le-leb _ _ (w .before .if2 .left),
+      answered-yes (w .well-sized .ensures) (e .before .if3 .left),
+      not-false (start w .args .room) (e .if4 .left),
+    )
     (c .check-records .ensures)
 
 pub check-spec : {M : Type 1} → statement M

@@ -1,102 +1,84 @@
 -- `mir::questions::check_records` meets its contract: no record passed is refused, and the first no decides.
--- Beside the laws of `firstRefusal` the loop keeps the renaming: the registers and the statics are those of the definition.
-use Prim.Native.Nat.{ℕ, _/_, _-_, _≤_}
-use mathlib.Core.Path.{_≡_, refl, sym, ap, _∙_}
-use native.Mathlib.Omega.{arith}
-use denote.Ref.{now}
-use lib.ListN.{length}
-use Rattle.mir.specs.declared.questions.Verdict.{Verdict}
-use Rattle.mir.specs.declared.questions.Verdict.the-variants.{Passed, Refused}
-use mathlib.Core.Bool.{true}
-use mathlib.Core.List.{List}
+-- By the laws of a walk that stops at the first refusal; beside them the loop keeps the definition's registers and statics.
+use Prim.Native.Nat.{_-_}
+use mathlib.Core.Path.{_≡_, refl, sym, _∙_}
 use native.Mathlib.Numerals.{add-one}
-use Rattle.mir.specs.declared.rename.Current.{Current}
-use Rattle.mir.specs.Folds.{firstRefusal}
-use Rattle.mir.specs.Records.{maxRegs, recordAt}
-use Rattle.mir.specs.Renaming.{gens, renamed, regsTo, staticsTo}
-use Rattle.mir.specs.Shapes.{dests}
-use Rattle.mir.specs.Questions.{recordNo, recordBy, recordRefusal}
-use Rattle.mir.proofs.Folds.{refusal-more, refusal-stops}
+use native.Mathlib.Omega.{arith}
+use borrow.Author.Needs.{needs}
+use denote.Ref.{now}
+use Rattle.mir.specs.Records.{maxRegs}
+use Rattle.mir.specs.Renaming.{regsTo, staticsTo}
+use Rattle.mir.specs.Questions.{recordBy, recordRefusal}
+use Rattle.mir.proofs.Folds.{Unrefused, unrefused-none, unrefused-more, unrefused-stops, unrefused-ends}
 use Rattle.mir.proofs.Passing.{well-sized, record-passes, gens-fit-more}
 use Rattle.mir.proofs.Renaming.{statics-two, gens-two}
-use borrow.Author.Needs.{needs}
 use Rattle.mir.proofs.questions.check_records.Statement.{statement}
 use Rattle.mir.proofs.questions.check_records.Tie as tie
 
 abbrev Inv-loop : tie.InvT-loop
-Inv-loop list table count-regs n regs₀ statics₀ i₀ regs statics i = (i ≤ n) × (firstRefusal (recordBy table count-regs list) i ≡ Passed) × (regs ≡ regsTo list i) × (statics ≡ staticsTo list i)
+Inv-loop list table count-regs n regs₀ statics₀ i₀ regs statics i =
+    Unrefused (recordBy table count-regs list) n i × (regs ≡ regsTo list i) × (statics ≡ staticsTo list i)
 
 abbrev μ-loop : tie.MeasureT-loop
 μ-loop list table count-regs n regs₀ statics₀ i₀ regs statics i = n - i
 
+-- where the record's number is known: the loop's test before it, and the call
+abbrev turn : tie.After-check-record Inv-loop μ-loop → tie.In-loop Inv-loop μ-loop
+turn r = r .before .before
+
+abbrev start : tie.After-check-record Inv-loop μ-loop → tie.Start Inv-loop μ-loop
+start r = turn r .before .before .before .before
+
 -- what the record is refused by is the definition's number for it
-by-is : (c : tie.After-check-record Inv-loop μ-loop) → c .check-record .result ≡ recordBy (now (c .before .before .before .before .before .before .args .table)) (c .before .before .before .before .before .before .args .count-regs) (now (c .before .before .before .before .before .before .args .list)) (c .before .before .before .loop .i)
-by-is c =
-    let at = c .before .before .before in
-    rw (← (c .before .record-at .ensures), ← (at .loop .inv .2)) (c .check-record .ensures)
+by-is : (r : tie.After-check-record Inv-loop μ-loop) →
+    let a = start r .args in
+    r .check-record .result ≡ recordBy (now (a .table)) (a .count-regs) (now (a .list)) (turn r .before .loop .i)
+by-is r = rw (← (r .before .record-at .ensures), ← (turn r .before .loop .inv .1)) (r .check-record .ensures)
 
 loop-holds : tie.Need-loop-holds Inv-loop μ-loop
-unfolding firstRefusal regsTo staticsTo
-loop-holds c = (search needs, refl, refl, refl)
-
-check-record-requires : tie.Need-check-record-requires Inv-loop μ-loop
-check-record-requires c κs = c .before .before .before .before .before .pre .0
+unfolding regsTo staticsTo
+loop-holds c = (unrefused-none, refl, refl)
 
 cast-t14 : tie.Need-cast-t14 Inv-loop μ-loop
-cast-t14 c =
-    let s = c .before .before .before .before .before .before .before in
-    omega (arith, well-sized _ _ (s .pre .1))
+cast-t14 c = omega (arith, well-sized _ _ (start (c .before) .pre .1))
 
 returns : tie.Need-returns Inv-loop μ-loop
 unfolding recordRefusal
 returns c =
-    let r = c .before in
-    let at = r .before .before .before in
-    let a = at .before .before .before .args in
-    let e = by-is r in
-    ap (λ (k : ℕ). Refused k (at .loop .i)) e
-    ∙ sym (refusal-stops (recordBy (now (a .table)) (a .count-regs) (now (a .list))) _ (at .loop .i) (r .before .before .loop-test .taken) (at .loop .inv .1)
-    (λ z. c .if1 .taken (e ∙ z)))
+    let l = turn (c .before) in
+    unrefused-stops (l .before .loop .inv .0) (l .loop-test .taken) (by-is (c .before)) (c .if1 .taken)
 
 rename-requires : tie.Need-rename-requires Inv-loop μ-loop
 rename-requires c κs =
     let r = c .before in
-    let at = r .before .before .before in
-    let s = at .before .before .before in
-    let a = s .args in
-    let p = record-passes (now (a .table)) (a .count-regs) (recordAt (now (a .list)) (at .loop .i)) (regsTo (now (a .list)) (at .loop .i)) (sym (by-is r) ∙ c .if1 .left) in (
-      rw (r .before .record-at .ensures) (gens-fit-more (a .count-regs) maxRegs _ (s .pre .0) (p .shape .gens)),
-      omega (arith, well-sized _ _ (s .pre .1), statics-two (now (a .list)) (at .loop .i)),
+    let s = start r in
+    let p = record-passes _ _ _ _ (sym (by-is r) ∙ c .if1 .left) in (
+      rw (r .before .record-at .ensures) (gens-fit-more _ maxRegs _ (s .pre .0) (p .shape .gens)),
+      omega (arith, well-sized _ _ (s .pre .1), statics-two (now (s .args .list)) (turn r .before .loop .i)),
     )
 
 add-statics : tie.Need-add-statics Inv-loop μ-loop
 add-statics c =
     let r = c .before .before .before in
-    let at = r .before .before .before in
-    let s = at .before .before .before in
+    let s = start r in
     rw (c .count-statics .ensures)
-    (omega (arith, well-sized _ _ (s .pre .1), statics-two (now (s .args .list)) (at .loop .i), gens-two (r .before .record-at .result)))
+    (omega (arith, well-sized _ _ (s .pre .1), statics-two (now (s .args .list)) (turn r .before .loop .i), gens-two (r .before .record-at .result)))
 
 loop-again : tie.Need-loop-again Inv-loop μ-loop
 unfolding regsTo staticsTo
 loop-again c =
     let e = c .before .before in
-    let r = e .before in
-    let at = r .before .before .before in
-    let a = at .before .before .before .args in
-    let rec = r .before .record-at .ensures in (
-      search needs,
-      refusal-more (recordBy (now (a .table)) (a .count-regs) (now (a .list))) (at .loop .i) (at .loop .inv .1) (sym (by-is r) ∙ e .if1 .left),
-      rw (add-one, ← (at .loop .inv .2), ← (at .loop .inv .3), ← rec) (c .before .rename .ensures),
-      rw (add-one, c .count-statics .ensures, rec, at .loop .inv .3),
+    let l = turn (e .before) in
+    let inv = l .before .loop .inv in
+    let rec = e .before .before .record-at .ensures in (
+      unrefused-more (inv .0) (l .loop-test .taken) (by-is (e .before)) (e .if1 .left),
+      rw (add-one, ← (inv .1), ← (inv .2), ← rec) (c .before .rename .ensures),
+      rw (add-one, c .count-statics .ensures, rec, inv .2),
     )
 
 returns-2 : tie.Need-returns-2 Inv-loop μ-loop
 unfolding recordRefusal
-returns-2 c =
-    let at = c .before in
-    let e : at .loop .i ≡ length (now (at .before .before .before .args .list)) / 8 = omega arith in
-    sym (rw e at (at .loop .inv .1))
+returns-2 c = unrefused-ends (c .before .loop .inv .0) (c .loop-test .left)
 
 pub check-records-spec : {M : Type 1} → statement M
 check-records-spec =
@@ -106,7 +88,7 @@ check-records-spec =
     μ-loop
     loop-holds
     (λ c κs. omega arith)
-    check-record-requires
+    (λ c κs. search needs)
     cast-t14
     returns
     rename-requires

@@ -1,64 +1,54 @@
 -- `mir::questions::check_source_words` meets its contract: each source passed has a static.
--- By the laws of `allBelow`; `all-words` carries them to the words from a place on.
-use Prim.Native.Nat.{ℕ, _≤_, _-_, _+_}
-use mathlib.Core.Bool.{Bool, true, false, cond}
-use mathlib.Core.Path.{_≡_, sym, ap, _∙_}
+-- By the laws of a walk that stops at the first word for which a test fails.
+use Prim.Native.Nat.{_-_, _+_, _≤_}
+use mathlib.Core.Path.{_≡_}
 use native.Mathlib.Omega.{arith}
-use lib.ListN.{length, getD}
-use Rattle.mir.specs.Folds.{allBelow}
-use Rattle.mir.specs.Questions.{genFits, named}
-use Rattle.mir.specs.Records.{maxRegs}
-use Rattle.mir.proofs.Folds.{all-none, all-more, all-fails, all-at, all-words, said-no, said-yes}
-use Rattle.mir.proofs.Renaming.{gen-below}
 use borrow.Author.Needs.{needs}
+use lib.ListN.{length, getD}
+use Rattle.mir.specs.Questions.{named}
+use Rattle.mir.specs.Records.{maxRegs}
+use Rattle.mir.proofs.Folds.{Holds, holds-none, holds-more, holds-stops, holds-ends, all-at, all-words, said-no, said-yes}
+use Rattle.mir.proofs.Renaming.{gen-below}
 use Rattle.mir.proofs.questions.check_source_words.Statement.{statement}
 use Rattle.mir.proofs.questions.check_source_words.Tie as tie
 
 abbrev Inv-loop : tie.InvT-loop
-Inv-loop regs from count rec j₀ j = (j ≤ count) × (allBelow j (λ k. named regs (getD rec (from + k) 0)) ≡ true)
+Inv-loop regs from count rec j₀ j = Holds (λ k. named regs (getD rec (from + k) 0)) count j
 
 abbrev μ-loop : tie.MeasureT-loop
 μ-loop regs from count rec j₀ j = count - j
 
-loop-holds : tie.Need-loop-holds Inv-loop μ-loop
-loop-holds c = (search needs, all-none _)
+-- the words lie in the record
+within : (s : tie.Start Inv-loop μ-loop) → s .args .from + s .args .count ≤ length (s .args .t2)
+within s =
+    let len : length (s .args .t2) ≡ 8 = s .good .1 .0 .1 .0 .1 in
+    omega arith
 
 check-source-requires : tie.Need-check-source-requires Inv-loop μ-loop
 check-source-requires c κs =
     let s = c .before .before in
-    let a = s .args in
-    let len : length (a .t2) ≡ 8 = s .good .1 .0 .1 .0 .1 in
-    gen-below maxRegs _
-    (all-at (λ k. genFits maxRegs (getD (a .t2) (a .from + k) 0)) (a .count) (c .before .loop .j)
-    (sym (all-words (genFits maxRegs) (a .t2) (a .from) (a .count) (omega arith)) ∙ s .pre .1) (c .loop-test .taken))
+    let h = within s in
+    let fit = rw all-words at (s .pre .1) in
+    gen-below maxRegs _ (all-at _ (s .args .count) (c .before .loop .j) fit (c .loop-test .taken))
 
 returns : tie.Need-returns Inv-loop μ-loop
 returns c =
     let at = c .before .before .before in
-    let s = at .before in
-    let a = s .args in
-    let len : length (a .t2) ≡ 8 = s .good .1 .0 .1 .0 .1 in
-    let w = getD (a .t2) (a .from + at .loop .j) 0 in
-    let f : named (a .regs) w ≡ false = said-no (named (a .regs) w) 8 (c .before .check-source .ensures) (c .if1 .taken) in
-    c .before .check-source .ensures
-    ∙ ap (λ (b : Bool). cond b 0 9) (f
-    ∙ sym (all-words (named (a .regs)) (a .t2) (a .from) (a .count) (omega arith)
-    ∙ all-fails _ (a .count) (at .loop .j) (c .before .before .loop-test .taken) f))
+    let a = at .before .args in
+    let h = within (at .before) in
+    let e = c .before .check-source .ensures in
+    let no = said-no (named (a .regs) (getD (a .t2) (a .from + at .loop .j) 0)) 8 e (c .if1 .taken) in
+    rw (all-words, ← (holds-stops (at .loop .inv) (c .before .before .loop-test .taken) no)) (rw no at e)
 
 loop-again : tie.Need-loop-again Inv-loop μ-loop
 loop-again c =
     let at = c .before .before .before in
-    let a = at .before .args in
-    let w = getD (a .t2) (a .from + at .loop .j) 0 in
-    (search needs, all-more _ (at .loop .j) (at .loop .inv .1) (said-yes (named (a .regs) w) 8 (c .before .check-source .ensures) (c .if1 .left)))
+    holds-more (at .loop .inv) (c .before .before .loop-test .taken) (said-yes _ 8 (c .before .check-source .ensures) (c .if1 .left))
 
 returns-2 : tie.Need-returns-2 Inv-loop μ-loop
 returns-2 c =
-    let s = c .before .before in
-    let a = s .args in
-    let len : length (a .t2) ≡ 8 = s .good .1 .0 .1 .0 .1 in
-    let e : c .before .loop .j ≡ a .count = omega arith in
-    sym (ap (λ (b : Bool). cond b 0 9) (all-words (named (a .regs)) (a .t2) (a .from) (a .count) (omega arith) ∙ rw e at (c .before .loop .inv .1)))
+    let h = within (c .before .before) in
+    rw (all-words, ← (holds-ends (c .before .loop .inv) (c .loop-test .left)))
 
 pub check-source-words-spec : {M : Type 1} → statement M
 check-source-words-spec =
@@ -66,7 +56,7 @@ check-source-words-spec =
     (tie.spec
     Inv-loop
     μ-loop
-    loop-holds
+    (λ c. holds-none)
     (λ c. search needs)
     (λ c. search needs)
     (λ c. search needs)

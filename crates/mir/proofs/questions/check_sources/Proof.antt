@@ -1,38 +1,30 @@
 -- `mir::questions::check_sources` meets its contract: the sources stand where the shape says.
-use Prim.Native.Nat.{ℕ, _+_, _≤_}
-use mathlib.Core.Bool.{cond}
-use mathlib.Core.Path.{ap, _∙_}
 use native.Mathlib.Omega.{arith}
-use lib.ListN.{getD, take, drop}
-use Rattle.mir.specs.declared.shape.Shape.{Shape}
-use Rattle.mir.specs.Folds.{all}
+use borrow.Author.Needs.{needs}
 use Rattle.mir.specs.Records.{maxRegs}
-use Rattle.mir.specs.Questions.{named, sourcesNamed}
+use Rattle.mir.specs.Questions.{sourcesNamed}
 use Rattle.mir.specs.Shapes.{sources}
 use Rattle.mir.proofs.Renaming.{gens-fit-both}
-use Rattle.mir.proofs.Shapes.{regs-in-record}
-use borrow.Author.Needs.{needs}
+use Rattle.mir.proofs.Shapes.{room}
 use Rattle.mir.proofs.questions.check_sources.Statement.{statement}
 use Rattle.mir.proofs.questions.check_sources.Tie as tie
-
-add-from : tie.Need-add-from
-add-from c = rw (c .before .shape-of .ensures) (omega (arith, regs-in-record (getD (c .before .before .args .t2) 0 0)))
 
 check-source-words-requires : tie.Need-check-source-words-requires
 unfolding sources
 check-source-words-requires c κs =
-    let s = c .before .before in
-    rw (c .before .shape-of .ensures)
-    (omega (arith, regs-in-record (getD (s .args .t2) 0 0)), gens-fit-both maxRegs (s .args .t2) (s .pre) .1)
+    let f = c .before in
+    (omega (arith, room _ (f .shape-of .ensures)), rw (f .shape-of .ensures) (gens-fit-both maxRegs _ (f .before .pre) .1))
 
 returns : tie.Need-returns
 unfolding sourcesNamed sources
-returns c =
-    let a = c .before .before .before .args in
-    c .check-source-words .ensures
-    ∙ ap (λ (s : Shape). cond (all (named (a .regs)) (take (s .srcs) (drop (s .regs + s .dsts) (a .t2)))) 0 9) (c .before .before .shape-of .ensures)
+returns c = rw (← (c .before .before .shape-of .ensures)) (c .check-source-words .ensures)
 
 pub check-sources-spec : {M : Type 1} → statement M
 check-sources-spec =
     tie.close
-    (tie.spec (λ c. search needs) (λ c κs. search needs) add-from check-source-words-requires returns)
+    (tie.spec
+    (λ c. search needs)
+    (λ c κs. search needs)
+    (λ c. omega (arith, room _ (c .before .shape-of .ensures)))
+    check-source-words-requires
+    returns)

@@ -1,6 +1,5 @@
 -- `mir::questions::gen_fits` meets its contract: the branch's test picks the case of `genFits`.
 use borrow.Author.Tests.{lt-ltb, le-ltb}
-use borrow.Author.Needs.{needs}
 use Rattle.mir.proofs.questions.gen_fits.Statement.{statement}
 use Rattle.mir.proofs.questions.gen_fits.Tie as tie
 

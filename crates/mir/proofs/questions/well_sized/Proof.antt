@@ -1,7 +1,6 @@
 -- `mir::questions::well_sized` meets its contract: the first test that fails makes the conjunction false.
 use borrow.Author.Tests.{eq-eqb, ne-eqb, le-leb, lt-leb}
 use Rattle.mir.specs.Questions.{wellSized}
-use borrow.Author.Needs.{needs}
 use Rattle.mir.proofs.questions.well_sized.Statement.{statement}
 use Rattle.mir.proofs.questions.well_sized.Tie as tie
 

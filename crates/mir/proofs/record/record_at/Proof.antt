@@ -1,12 +1,11 @@
--- `mir::record::record_at` meets its contract: the eight words read are the record's, by the law `record-words`.
+-- `mir::record::record_at` meets its contract: the eight words read are the record's.
+-- By the law `record-words`; each place is in the list.
+use native.Mathlib.Nat.{add-zero}
 use borrow.Author.Needs.{needs}
 use denote.Ref.{now}
-use native.Mathlib.Nat.{add-zero}
 use Rattle.mir.proofs.Records.{record-words}
 use Rattle.mir.proofs.record.record_at.Statement.{statement}
 use Rattle.mir.proofs.record.record_at.Tie as tie
-use Rattle.mir.proofs.record.record_at.Reads as reads
-use Rattle.mir.proofs.record.record_at.Lts as lts
 
 returns : tie.Need-returns
 returns c =
@@ -17,28 +16,8 @@ pub record-at-spec : {M : Type 1} → statement M
 record-at-spec =
     tie.close
     (tie.spec
-    (λ c. search needs)
-    (λ c. search needs)
-    (λ c. search needs)
-    (λ c. search needs)
-    (λ c. search needs)
-    (λ c. search needs)
-    (λ c. search needs)
-    (λ c. search needs)
-    (λ c. search needs)
-    (λ c. search needs)
-    (λ c. search needs)
-    (λ c. search needs)
-    (λ c. search needs)
-    (λ c. search needs)
-    (λ c. search needs)
-    (λ c. search needs)
-    (λ c. search needs)
-    (λ c. search needs)
-    (λ c. search needs)
-    (λ c. search needs)
-    (λ c. search needs)
-    (λ c. search needs)
-    (λ c. search needs)
-    (λ c. search needs)
+    (λ c. search needs) (λ c. search needs) (λ c. search needs) (λ c. search needs) (λ c. search needs) (λ c. search needs)
+    (λ c. search needs) (λ c. search needs) (λ c. search needs) (λ c. search needs) (λ c. search needs) (λ c. search needs)
+    (λ c. search needs) (λ c. search needs) (λ c. search needs) (λ c. search needs) (λ c. search needs) (λ c. search needs)
+    (λ c. search needs) (λ c. search needs) (λ c. search needs) (λ c. search needs) (λ c. search needs) (λ c. search needs)
     returns)

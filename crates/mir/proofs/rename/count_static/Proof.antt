@@ -1,6 +1,5 @@
 -- `mir::rename::count_static` meets its contract: the branch's test picks the case of `one`.
 use borrow.Author.Tests.{lt-ltb, le-ltb}
-use borrow.Author.Needs.{needs}
 use Rattle.mir.proofs.rename.count_static.Statement.{statement}
 use Rattle.mir.proofs.rename.count_static.Tie as tie
 

@@ -1,12 +1,11 @@
 -- `mir::rename::count_statics` meets its contract: each destination counts by itself.
-use mathlib.Core.Path.{_≡_, sym, ap, _∙_}
-use mathlib.Core.List.{[], _∷_}
+-- Each arm has the destinations that its pattern tells.
 use native.Mathlib.Nat.{add-zero}
 use native.Mathlib.Omega.{arith}
-use Rattle.mir.specs.Renaming.{gens}
-use Rattle.mir.specs.Shapes.{listed}
-use Rattle.mir.proofs.Renaming.{one-le}
 use borrow.Author.Needs.{needs}
+use Rattle.mir.specs.Renaming.{gens}
+use Rattle.mir.proofs.Renaming.{one-le}
+use Rattle.mir.proofs.Shapes.{dests-told}
 use Rattle.mir.proofs.rename.count_statics.Statement.{statement}
 use Rattle.mir.proofs.rename.count_statics.Tie as tie
 
@@ -17,31 +16,27 @@ add-result c =
 
 returns : tie.Need-returns
 unfolding gens
-returns c = rw (sym (c .before .before .dests-of .ensures) ∙ ap listed (c .enum-told .given .1))
+returns c = rw (dests-told (c .before .before .dests-of .ensures) (c .enum-told .given .1))
 
 returns-2 : tie.Need-returns-2
 unfolding gens
 returns-2 c =
-    let x = c .before .before in
-    rw (sym (x .before .before .dests-of .ensures) ∙ ap listed (x .x .given .1), add-zero) (c .count-static .ensures)
+    let a = c .before .before in
+    rw (dests-told (a .before .before .dests-of .ensures) (a .x .given .1), add-zero) (c .count-static .ensures)
 
 returns-3 : tie.Need-returns-3
 unfolding gens
 returns-3 c =
-    let x = c .before .before .before in
-    rw (sym (x .before .before .dests-of .ensures) ∙ ap listed (x .x2 .given .1), add-zero, c .before .count-static2 .ensures, c .count-static3 .ensures)
+    let y = c .before in
+    let a = y .before .before in
+    rw (dests-told (a .before .before .dests-of .ensures) (a .x2 .given .1), add-zero, y .count-static2 .ensures, c .count-static3 .ensures)
 
 pub count-statics-spec : {M : Type 1} → statement M
 count-statics-spec =
     tie.close
     (tie.spec
-    (λ c κs. search needs)
-    (λ c. search needs)
-    (λ c. search needs)
-    (λ c κs. search needs)
-    (λ c. search needs)
-    (λ c κs. search needs)
-    (λ c κs. search needs)
+    (λ c κs. search needs) (λ c. search needs) (λ c. search needs) (λ c κs. search needs) (λ c. search needs)
+    (λ c κs. search needs) (λ c κs. search needs)
     add-result
     returns
     returns-2

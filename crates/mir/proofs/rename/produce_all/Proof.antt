@@ -1,30 +1,32 @@
 -- `mir::rename::produce_all` meets its contract: x takes its static before y.
-use mathlib.Core.Path.{_≡_, sym, ap, _∙_}
+-- Each arm has the destinations that its pattern tells.
+use mathlib.Core.List.{[], _∷_}
+use mathlib.Core.Path.{_≡_}
 use native.Mathlib.Omega.{arith}
-use mathlib.Core.Bool.{true}
-use Rattle.mir.specs.Folds.{all}
-use Rattle.mir.specs.Records.{maxRegs}
-use Rattle.mir.specs.Questions.{genFits}
-use Rattle.mir.specs.Renaming.{produced}
-use Rattle.mir.specs.Shapes.{listed}
-use Rattle.mir.proofs.Renaming.{one-le, gens-fit-both, fits-one, fits-two}
 use borrow.Author.Needs.{needs}
+use Rattle.mir.specs.Records.{maxRegs}
+use Rattle.mir.specs.Renaming.{produced}
+use Rattle.mir.specs.Shapes.{dests}
+use Rattle.mir.proofs.Renaming.{one-le, dest-below, dests-below}
+use Rattle.mir.proofs.Shapes.{dests-told}
 use Rattle.mir.proofs.rename.produce_all.Statement.{statement}
 use Rattle.mir.proofs.rename.produce_all.Tie as tie
 
+one : (a : tie.After-x) → dests (a .before .before .before .args .rec) ≡ a .x .given .0 .0 ∷ []
+one a = dests-told (a .before .before .dests-of .ensures) (a .x .given .1)
+
+two : (a : tie.After-x2) → dests (a .before .before .before .args .rec) ≡ a .x2 .given .0 .0 ∷ a .x2 .given .0 .1 .0 ∷ []
+two a = dests-told (a .before .before .dests-of .ensures) (a .x2 .given .1)
+
 produce-requires : tie.Need-produce-requires
 produce-requires c κs =
-    let x = c .before in
-    let s = x .before .before .before in
-    fits-one maxRegs (x .x .given .0 .0)
-    (rw (sym (x .before .before .dests-of .ensures) ∙ ap listed (x .x .given .1)) at (gens-fit-both maxRegs (s .args .rec) (s .pre .0) .0))
+    let a = c .before in
+    dest-below maxRegs _ (a .before .before .before .pre .0) (one a)
 
 produce-requires-2 : tie.Need-produce-requires-2
 produce-requires-2 c κs =
-    let x = c .before in
-    let s = x .before .before .before in
-    fits-two maxRegs (x .x2 .given .0 .0) (x .x2 .given .0 .1 .0)
-    (rw (sym (x .before .before .dests-of .ensures) ∙ ap listed (x .x2 .given .1)) at (gens-fit-both maxRegs (s .args .rec) (s .pre .0) .0)) .0
+    let a = c .before in
+    dests-below maxRegs _ (a .before .before .before .pre .0) (two a) .0
 
 add-produce : tie.Need-add-produce
 add-produce c =
@@ -32,27 +34,22 @@ add-produce c =
 
 produce-requires-3 : tie.Need-produce-requires-3
 produce-requires-3 c κs =
-    let x = c .before .before .before in
-    let s = x .before .before .before in
-    fits-two maxRegs (x .x2 .given .0 .0) (x .x2 .given .0 .1 .0)
-    (rw (sym (x .before .before .dests-of .ensures) ∙ ap listed (x .x2 .given .1)) at (gens-fit-both maxRegs (s .args .rec) (s .pre .0) .0)) .1
+    let a = c .before .before .before in
+    dests-below maxRegs _ (a .before .before .before .pre .0) (two a) .1
 
 returns : tie.Need-returns
 unfolding produced
-returns c = rw (sym (c .before .before .dests-of .ensures) ∙ ap listed (c .enum-told .given .1))
+returns c = rw (dests-told (c .before .before .dests-of .ensures) (c .enum-told .given .1))
 
 returns-2 : tie.Need-returns-2
 unfolding produced
-returns-2 c =
-    let x = c .before .before in
-    rw (sym (x .before .before .dests-of .ensures) ∙ ap listed (x .x .given .1)) (c .produce .ensures)
+returns-2 c = rw (one (c .before .before)) (c .produce .ensures)
 
 returns-3 : tie.Need-returns-3
 unfolding produced
 returns-3 c =
-    let x = c .before .before .before .before in
-    rw (sym (x .before .before .dests-of .ensures) ∙ ap listed (x .x2 .given .1), ← (c .before .count-static .ensures), ← (c .before .before .produce2 .ensures))
-    (c .produce3 .ensures)
+    let n = c .before in
+    rw (two (n .before .before .before), ← (n .count-static .ensures), ← (n .before .produce2 .ensures)) (c .produce3 .ensures)
 
 pub produce-all-spec : {M : Type 1} → statement M
 produce-all-spec =

@@ -3,8 +3,6 @@ use borrow.Author.Needs.{needs}
 use Rattle.mir.specs.Records.{fixedMark}
 use Rattle.mir.proofs.config.Settings.fixed.Statement.{statement}
 use Rattle.mir.proofs.config.Settings.fixed.Tie as tie
-use Rattle.mir.proofs.config.Settings.fixed.Reads as reads
-use Rattle.mir.proofs.config.Settings.fixed.Lts as lts
 
 returns : tie.Need-returns
 unfolding fixedMark
