@@ -14,7 +14,8 @@ use Rattle.mir.specs.declared.shape.Action.{Action}
 use Rattle.mir.specs.declared.shape.Action.the-variants as action
 use Rattle.mir.specs.declared.shape.Dests.{Dests}
 use Rattle.mir.specs.declared.shape.Shape.{Shape}
-use Rattle.mir.specs.Shapes.{shapeOf, shapes, bare, reg, loadArgs, shapeFor, dests, sources, listed}
+use Rattle.mir.specs.Inner.{listed}
+use Rattle.mir.specs.Shapes.{shapeOf, shapes, bare, reg, loadArgs, shapeFor, dests, sources}
 use Rattle.mir.specs.Folds.{allBelow}
 use Rattle.mir.proofs.Folds.{all-at}
 use Rattle.mir.proofs.Records.{tabulate, words-at}

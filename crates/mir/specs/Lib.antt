@@ -1,4 +1,5 @@
 -- Public: what a reader must believe of records, settings and the nine questions; the files go in document 01's order.
+-- Inner stands apart: what only the functions inside say.
 pub mod Records
 pub mod Shapes
 pub mod Renaming
@@ -6,3 +7,4 @@ pub mod Folds
 pub mod Questions
 pub mod Answers
 pub mod Beside
+pub mod Inner

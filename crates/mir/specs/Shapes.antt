@@ -5,8 +5,6 @@ use lib.ListN.{getD, take, drop}
 use Rattle.mir.specs.declared.shape.Action.{Action}
 use Rattle.mir.specs.declared.shape.Action.the-variants.{Mov, Load, Save, LoadComplex, SaveComplex, LoadArgs, Clear, Other}
 use Rattle.mir.specs.declared.shape.Shape.{Shape}
-use Rattle.mir.specs.declared.shape.Dests.{Dests}
-use Rattle.mir.specs.declared.shape.Dests.the-variants.{Nothing, One, Two}
 use Rattle.mir.specs.Records.{wordAt}
 
 abbrev pub shape : Action → ℕ → ℕ → ℕ → ℕ → List ℕ → Shape
@@ -97,9 +95,3 @@ sources rec = take (shapeFor rec .srcs) (drop (shapeFor rec .regs + shapeFor rec
 
 unfoldable pub registers : List ℕ → List ℕ
 registers rec = take (shapeFor rec .dsts + shapeFor rec .srcs) (drop (shapeFor rec .regs) rec)
-
--- the destinations as the code hands them on
-abbrev pub listed : Dests → List ℕ
-listed Nothing = []
-listed (One x) = x ∷ []
-listed (Two x y) = x ∷ y ∷ []

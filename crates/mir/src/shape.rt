@@ -1,6 +1,7 @@
 // What the words of a record are, and what the passes do with it: one decision on the kind.
 ghost use mathlib.Core.Path.{_≡_};
-ghost use Rattle.mir.specs.Shapes.{shapeOf, dests, listed};
+ghost use Rattle.mir.specs.Inner.{listed};
+ghost use Rattle.mir.specs.Shapes.{shapeOf, dests};
 use Action::Clear;
 use Action::Load;
 use Action::LoadArgs;

@@ -10,7 +10,8 @@ use lib.Seq.{sets, sets-eq, length-take-le, drop-set-lt}
 use Rattle.mir.specs.declared.rename.Current.{Current}
 use Rattle.mir.specs.declared.shape.Dests.{Dests}
 use Rattle.mir.specs.declared.shape.Shape.{Shape}
-use Rattle.mir.specs.Shapes.{shapeFor, dests, sources, listed}
+use Rattle.mir.specs.Inner.{listed}
+use Rattle.mir.specs.Shapes.{shapeFor, dests, sources}
 use Rattle.mir.proofs.Shapes.{regs-in-record}
 use Rattle.passes.specs.Color.{sourceWord}
 use Rattle.allocator.specs.Inner.Walks.{destWords, sourceWords, rewritten}

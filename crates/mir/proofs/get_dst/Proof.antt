@@ -65,12 +65,9 @@ pub get-dst-spec : {M : Type 1} → statement M
 get-dst-spec =
     tie.close
     (tie.spec
-    (λ c. search needs)
-    (λ c. search needs)
+    (λ c. search needs) (λ c. search needs)
     bit-requires
-    (λ c κs. search needs)
-    (λ c. search needs)
-    (λ c. search needs)
+    (λ c κs. search needs) (λ c. search needs) (λ c. search needs)
     bit-requires-2
     (λ c. search needs)
     two-bits-requires

@@ -52,7 +52,6 @@ last-label-spec =
     Inv-loop
     μ-loop
     loop-holds
-    (λ c κs. omega arith)
-    (λ c. search needs) (λ c κs. search needs) (λ c. search needs) (λ c. search needs)
+    (λ c κs. omega arith) (λ c. search needs) (λ c κs. search needs) (λ c. search needs) (λ c. search needs)
     loop-again
     returns)

@@ -25,9 +25,7 @@ pub populate-labels-spec : {M : Type 1} → statement M
 populate-labels-spec =
     tie.close
     (tie.spec
-    (λ c κs. search needs)
-    (λ c. search needs)
-    (λ c. search needs)
+    (λ c κs. search needs) (λ c. search needs) (λ c. search needs)
     last-label-requires
     returns
     returns-2)

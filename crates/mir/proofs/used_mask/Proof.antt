@@ -54,7 +54,6 @@ used-mask-spec =
     loop-holds
     (λ c κs. omega arith)
     get-dst-requires
-    (λ c. search needs)
-    (λ c. search needs)
+    (λ c. search needs) (λ c. search needs)
     loop-again
     returns-2)

@@ -35,9 +35,7 @@ pub used-registers-spec : {M : Type 1} → statement M
 used-registers-spec =
     tie.close
     (tie.spec
-    (λ c κs. search needs)
-    (λ c. search needs)
-    (λ c. search needs)
+    (λ c κs. search needs) (λ c. search needs) (λ c. search needs)
     used-mask-requires
     returns
     returns-2)

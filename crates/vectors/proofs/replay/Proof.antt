@@ -35,5 +35,4 @@ replay-spec =
     (λ c. sym (length-take-le _ _ (array-share-prefix-list (c .before))))
     array-share-prefix-table
     (λ c. sym (length-take-le _ _ (array-share-prefix-table (c .before))))
-    (λ c κs. search needs)
-    (λ c. search needs))
+    (λ c κs. search needs) (λ c. search needs))

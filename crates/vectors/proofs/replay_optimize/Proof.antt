@@ -16,5 +16,4 @@ replay-optimize-spec =
     (λ c. search needs) (λ c. sym (length-take-le _ _ (search needs)))
     (λ c. search needs) (λ c. sym (length-take-le _ _ (search needs)))
     (λ c. search needs) (λ c. sym (length-take-le _ _ (search needs)))
-    (λ c κs. search needs)
-    (λ c. search needs))
+    (λ c κs. search needs) (λ c. search needs))

@@ -2,7 +2,7 @@
 use mathlib.Core.Path.{refl, sym, ap, _∙_}
 use native.Mathlib.Omega.{arith}
 use denote.Ref.{now}
-use Rattle.mir.specs.Shapes.{listed}
+use Rattle.mir.specs.Inner.{listed}
 use Rattle.mir.proofs.Renaming.{one-le}
 use Rattle.allocator.specs.Inner.Walks.{Slices, slices, destStep, destSteps}
 use Rattle.allocator.proofs.color.Dests.{slices-same}

@@ -1,6 +1,6 @@
 -- `allocator::color::was_found` meets its contract: by the destinations; x decides.
 use mathlib.Core.Path.{sym, ap, _∙_}
-use Rattle.mir.specs.Shapes.{listed}
+use Rattle.mir.specs.Inner.{listed}
 use Rattle.allocator.specs.Inner.Walks.{wasFound}
 use borrow.Author.Needs.{needs}
 use Rattle.allocator.proofs.color.was_found.Statement.{statement}

@@ -5,7 +5,7 @@ use native.Mathlib.Numerals.{add-one}
 use native.Mathlib.Omega.{arith}
 use lib.ListN.{length}
 use Rattle.mir.proofs.Renaming.{one-le}
-use Rattle.mir.specs.Shapes.{listed}
+use Rattle.mir.specs.Inner.{listed}
 use Rattle.allocator.specs.Inner.Walks.{destWords}
 use Rattle.allocator.proofs.contract.Record.{dests-room}
 use borrow.Author.Needs.{needs}

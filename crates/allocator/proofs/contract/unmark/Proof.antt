@@ -2,7 +2,7 @@
 use mathlib.Core.Path.{sym, ap, _∙_}
 use native.Mathlib.Omega.{arith}
 use Rattle.allocator.specs.Inner.Walks.{unmarked}
-use Rattle.mir.specs.Shapes.{listed}
+use Rattle.mir.specs.Inner.{listed}
 use Rattle.mir.proofs.Renaming.{one-le}
 use borrow.Author.Needs.{needs}
 use Rattle.allocator.proofs.contract.unmark.Statement.{statement}

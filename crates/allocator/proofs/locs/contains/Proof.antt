@@ -36,5 +36,4 @@ contains-spec =
     cell-requires
     shared-slice-read-result
     returns
-    (λ c κs. search needs)
-    (λ c. search needs))
+    (λ c κs. search needs) (λ c. search needs))

@@ -52,12 +52,8 @@ first-spec =
     Inv-loop
     μ-loop
     loop-holds
-    (λ c. search needs)
-    (λ c. omega arith)
-    (λ c κs. search needs)
-    (λ c. search needs)
+    (λ c. search needs) (λ c. omega arith) (λ c κs. search needs) (λ c. search needs)
     returns
-    (λ c. search needs)
-    (λ c. search needs)
+    (λ c. search needs) (λ c. search needs)
     loop-again
     returns-2)

@@ -48,7 +48,6 @@ all-gens-fit-spec =
     (λ c. holds-none)
     (λ c. search needs) (λ c. search needs) (λ c. search needs) (λ c κs. search needs)
     returns
-    (λ c. search needs)
-    (λ c. search needs)
+    (λ c. search needs) (λ c. search needs)
     loop-again
     returns-2)

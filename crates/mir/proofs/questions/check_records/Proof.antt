@@ -87,14 +87,12 @@ check-records-spec =
     Inv-loop
     μ-loop
     loop-holds
-    (λ c κs. omega arith)
-    (λ c κs. search needs)
+    (λ c κs. omega arith) (λ c κs. search needs)
     cast-t14
     returns
     rename-requires
     (λ c κs. search needs)
     add-statics
-    (λ c. search needs)
-    (λ c. search needs)
+    (λ c. search needs) (λ c. search needs)
     loop-again
     returns-2)

@@ -52,11 +52,9 @@ check-shapes-spec =
     Inv-loop
     μ-loop
     (λ c. unrefused-none)
-    (λ c κs. omega arith)
-    (λ c κs. search needs)
+    (λ c κs. omega arith) (λ c κs. search needs)
     cast-t10
     returns
-    (λ c. search needs)
-    (λ c. search needs)
+    (λ c. search needs) (λ c. search needs)
     loop-again
     returns-2)

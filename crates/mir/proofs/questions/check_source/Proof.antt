@@ -37,7 +37,6 @@ check-source-spec =
     returns
     (λ c. search needs)
     (λ c. c .before .pre (c .if1 .left))
-    (λ c. search needs)
-    (λ c. search needs)
+    (λ c. search needs) (λ c. search needs)
     returns-2
     returns-3)

@@ -23,8 +23,7 @@ pub check-sources-spec : {M : Type 1} → statement M
 check-sources-spec =
     tie.close
     (tie.spec
-    (λ c. search needs)
-    (λ c κs. search needs)
+    (λ c. search needs) (λ c κs. search needs)
     (λ c. omega (arith, room _ (c .before .shape-of .ensures)))
     check-source-words-requires
     returns)

@@ -34,9 +34,7 @@ pub fields-fit-spec : {M : Type 1} → statement M
 fields-fit-spec =
     tie.close
     (tie.spec
-    (λ c. search needs)
-    (λ c κs. search needs)
-    (λ c κs. search needs)
+    (λ c. search needs) (λ c κs. search needs) (λ c κs. search needs)
     returns
     (λ c. search needs) (λ c. search needs) (λ c. search needs) (λ c κs. search needs)
     returns-2

@@ -15,8 +15,7 @@ pub gens-fit-spec : {M : Type 1} → statement M
 gens-fit-spec =
     tie.close
     (tie.spec
-    (λ c. search needs)
-    (λ c κs. search needs)
+    (λ c. search needs) (λ c κs. search needs)
     (λ c. omega (arith, room _ (c .before .shape-of .ensures)))
     (λ c κs. room _ (c .before .shape-of .ensures))
     returns)

@@ -55,9 +55,7 @@ pub produce-all-spec : {M : Type 1} → statement M
 produce-all-spec =
     tie.close
     (tie.spec
-    (λ c κs. search needs)
-    (λ c. search needs)
-    (λ c. search needs)
+    (λ c κs. search needs) (λ c. search needs) (λ c. search needs)
     produce-requires
     (λ c. search needs)
     produce-requires-2

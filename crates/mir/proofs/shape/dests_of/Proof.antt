@@ -26,8 +26,7 @@ pub dests-of-spec : {M : Type 1} → statement M
 dests-of-spec =
     tie.close
     (tie.spec
-    (λ c. search needs)
-    (λ c κs. search needs)
+    (λ c. search needs) (λ c κs. search needs)
     (λ c. rw (words (c .before), c .if1 .taken))
     (λ c. omega (arith, room _ (c .before .before .shape-of .ensures)))
     (λ c. omega (arith, room _ (c .before .before .shape-of .ensures)))
