@@ -1,11 +1,10 @@
 -- `rudzaviks::rudzaviks_optimize` meets its contract: it answers as `optimize` does, or refuses where the counts have no room.
 -- By the promise of either case.
-use mathlib.Core.Bool.{false}
-use mathlib.Core.Path.{refl, ap, subst, _∙_}
+use Prim.Native.Nat.{_≤_}
+use mathlib.Core.Path.{refl}
+use lib.ListN.{length}
 use borrow.Author.Needs.{needs}
 use Rattle.mir.specs.declared.config.Settings.{Settings}
-use Rattle.mir.specs.Questions.{refusal}
-use Rattle.allocator.specs.declared.Answer.the-variants.{Reduced, Refused}
 use Rattle.allocator.specs.Optimize.{Lent, lent, Optimized}
 use Rattle.rudzaviks.specs.Exports.{settingsOf}
 use Rattle.rudzaviks.proofs.Optimize.{entry-answered, entry-short}
@@ -30,37 +29,26 @@ now-held o =
 
 promised : (o : tie.After-optimize)
     → Optimized (settings (start o)) (start o .args .list .now) (start o .args .table .now) (held (start o)) (now-held o) (o .optimize .result)
-promised o =
-    let a = start o in
-    let same = o .before .before .before .before .before .before .settings-of .ensures in
-    subst (λ s. Optimized s (a .args .list .now) (a .args .table .now) (held a) (now-held o) (o .optimize .result)) same (o .optimize .ensures)
+promised o = rw (o .before .before .before .before .before .before .settings-of .ensures) at (o .optimize .ensures)
+
+room : (o : tie.After-optimize) → 7 ≤ length (start o .args .counts .now)
+room o = o .before .before .before .before .before .if1 .left
 
 returns : tie.Need-returns
 returns c =
-    let a = c .before .before .before .before .before .before .before .before .before .before .before in
-    let verdict = c .before .check .ensures ∙ ap (λ s. refusal false s (a .args .list .now) (a .args .table .now)) (c .before .before .before .settings-of .ensures) in
-    rw (c .verdict-word .ensures)
-    (entry-short (settings a) (a .args .list .now) (a .args .table .now) (held a) (a .args .counts .now) (c .before .before .if1 .taken) (c .before .check .result) verdict)
+    let verdict = rw (c .before .before .before .settings-of .ensures) at (c .before .check .ensures) in
+    rw (c .verdict-word .ensures) (entry-short (c .before .check .result) (c .before .before .if1 .taken) verdict)
 
 returns-2 : tie.Need-returns-2
 returns-2 c =
-    let o = c .before .before .before .before .before .before .before .before .before .before .before .before .before .before .before .before in
-    let a = start o in
-    let given = c .before .before .before .before .before .before .c .given in
-    let p = subst (Optimized (settings a) (a .args .list .now) (a .args .table .now) (held a) (now-held o)) (given .1) (promised o) in
-    let written = c .before .before .before .write-counts in
-    let room = o .before .before .before .before .before .if1 .left in
-    entry-answered (settings a) (a .args .list .now) (a .args .table .now) (held a) (a .args .counts .now) (now-held o) (Reduced (given .0 .0)) room p (written .last .1 .0) (written .ensures)
+    let w = c .before .before .before in
+    let o = w .before .before .before .before .before .before .before .before .before .before .before .before .before in
+    entry-answered (room o) (promised o) (w .before .before .before .c .given .1) (w .write-counts .ensures)
 
 returns-3 : tie.Need-returns-3
 returns-3 c =
     let o = c .before .before .before .before .before .before .before .before .before .before .before .before in
-    let a = start o in
-    let given = c .before .before .number .given in
-    let p = subst (Optimized (settings a) (a .args .list .now) (a .args .table .now) (held a) (now-held o)) (given .1) (promised o) in
-    let room = o .before .before .before .before .before .if1 .left in
-    rw (c .refusal-word .ensures)
-    (entry-answered (settings a) (a .args .list .now) (a .args .table .now) (held a) (a .args .counts .now) (now-held o) (Refused (given .0 .0) (given .0 .1 .0)) room p (a .args .counts .now) refl)
+    rw (c .refusal-word .ensures) (entry-answered (room o) (promised o) (c .before .before .number .given .1) refl)
 
 pub rudzaviks-optimize-spec : {M : Type 1} → statement M
 rudzaviks-optimize-spec =
