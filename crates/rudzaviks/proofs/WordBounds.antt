@@ -1,11 +1,11 @@
 -- Every word of a reduced list fits 32 bits, so that it can be read back from its bytes.
 -- The reduced list passes question 6, and no field's largest value is above 4,294,967,295.
 use Prim.Native.Nat.{ℕ, zero, suc, _+_, _*_, _/_, _%_, _<_, _≤_, _^_}
-use mathlib.Core.Bool.{Bool, true, false, _&&_}
+use mathlib.Core.Bool.{true}
 use mathlib.Core.List.{List, [], _∷_}
-use mathlib.Core.Path.{_≡_, refl, ap, _∙_}
+use mathlib.Core.Path.{_≡_, ap, _∙_}
 use native.Mathlib.Omega.{arith}
-use lib.Dec.{T, leb}
+use lib.Dec.{leb}
 use lib.ListN.{length, getD, drop}
 use lib.Seq.{getD-take, getD-drop}
 use borrow.Author.Tests.{leb-true}
@@ -18,25 +18,21 @@ use Rattle.mir.specs.Shapes.{any, shapeOf, shapeFor}
 use Rattle.mir.proofs.Folds.{all-at}
 use Rattle.mir.proofs.Passing.{shape-passes}
 use Rattle.mir.proofs.Renaming.{and-both}
-use Rattle.mir.proofs.Shapes.{each-from, by-kind}
+use Rattle.mir.proofs.Shapes.{each-from, by-kind, truth}
 use Rattle.passes.specs.Contract.{reduced}
 use Rattle.passes.specs.Machine.{Passing}
 use Rattle.passes.proofs.Reduced.{reduced-passes}
 
 -- the largest values
-each-small : (ws : List ℕ) (p : ℕ) → T (all (λ w. leb w any) ws) → getD ws p 0 ≤ any
+each-small : (ws : List ℕ) (p : ℕ) → all (λ w. leb w any) ws ≡ true → getD ws p 0 ≤ any
 unfolding all
-each-small [] p t = omega arith
-each-small (w ∷ ws) p t = go (leb w any) refl t (each-small ws) p
-  where
-    go : (b : Bool) → leb w any ≡ b → T (b && all (λ v. leb v any) ws) → ((q : ℕ) → T (all (λ v. leb v any) ws) → getD ws q 0 ≤ any) → (q : ℕ) → getD (w ∷ ws) q 0 ≤ any
-    go false e u up q = absurd u
-    go true e u up zero = leb-true w any e
-    go true e u up (suc q) = up q u
+each-small [] p e = omega arith
+each-small (w ∷ ws) zero e = leb-true w any (and-both (leb w any) _ e .0)
+each-small (w ∷ ws) (suc p) e = each-small ws p (and-both (leb w any) _ e .1)
 
 most-small : (k p : ℕ) → getD (shapeOf k .most) p 0 ≤ any
 unfolding each-from all
-most-small k p = each-small (shapeOf k .most) p (by-kind (λ n s. all (λ w. leb w any) (s .most)) tt (λ n. tt) k)
+most-small k p = each-small (shapeOf k .most) p (truth _ (by-kind (λ n s. all (λ w. leb w any) (s .most)) tt (λ n. tt) k))
 
 record-small : (table rec : List ℕ) (p : ℕ) → fieldsFit table rec ≡ true → p < 8 → getD rec p 0 ≤ any
 unfolding fieldsFit wordsFit
@@ -49,10 +45,11 @@ word-of : (list : List ℕ) (i p : ℕ) → p < 8 → getD (recordAt list i) p 0
 unfolding recordAt
 word-of list i p l = getD-take 8 (drop (i * 8) list) p 0 l ∙ getD-drop (i * 8) list p 0
 
-pub reduced-small : (s : Settings) (list table : List ℕ) → Passing s list table → (k : ℕ) → k < length (reduced s list table) → getD (reduced s list table) k 0 < 2 ^ 32
+pub reduced-small : (s : Settings) (list table : List ℕ) → Passing s list table → (k : ℕ) → k < length (reduced s list table)
+    → getD (reduced s list table) k 0 < 2 ^ 32
 reduced-small s list table h k l =
     let R = reduced s list table in
-    let p = reduced-passes s list table h (k / 8) (omega (arith, l, reduced-words s list table)) in
+    let p = reduced-passes s list table h (k / 8) (omega (arith, reduced-words s list table)) in
     let f = record-small table (recordAt R (k / 8)) (k % 8) (shape-passes table (s .«count_regs») (recordAt R (k / 8)) p .fields) (omega arith) in
     let e : k / 8 * 8 + k % 8 ≡ k = omega arith in
     omega (arith, f, word-of R (k / 8) (k % 8) (omega arith), ap (λ n. getD R n 0) e)

@@ -5,17 +5,8 @@ use borrow.Author.Needs.{needs}
 use Rattle.rudzaviks.proofs.used_word.Statement.{statement}
 use Rattle.rudzaviks.proofs.used_word.Tie as tie
 
-mul-result : tie.Need-mul-result
-mul-result c =
-    let s = c .before .before .before in
-    let h : c .before .used .given .0 .1 .0 ≤ 32 = rw (c .before .used .given .1) at (s .pre) in
-    omega arith
-
-add-result : tie.Need-add-result
-add-result c =
-    let s = c .before .before .before in
-    let h : c .before .used .given .0 .1 .0 ≤ 32 = rw (c .before .used .given .1) at (s .pre) in
-    omega arith
+few : (u : tie.After-used) → u .used .given .0 .1 .0 ≤ 32
+few u = rw (u .used .given .1) at (u .before .before .pre)
 
 returns : tie.Need-returns
 returns c = rw (c .before .used .given .1)
@@ -29,9 +20,9 @@ used-word-spec =
     (tie.spec
     (λ c. search needs)
     (λ c. search needs)
-    mul-result
+    (λ c. omega (arith, few (c .before)))
     (λ c. search needs)
-    add-result
+    (λ c. omega (arith, few (c .before)))
     (λ c. search needs)
     (λ c κs. search needs)
     returns

@@ -7,15 +7,6 @@ use borrow.Author.Needs.{needs}
 use Rattle.rudzaviks.proofs.file.put_word.Statement.{statement}
 use Rattle.rudzaviks.proofs.file.put_word.Tie as tie
 
-slice-write-out-2 : tie.Need-slice-write-out-2
-slice-write-out-2 c = simp length-set (omega arith)
-
-slice-write-out-3 : tie.Need-slice-write-out-3
-slice-write-out-3 c = simp length-set (omega arith)
-
-slice-write-out-4 : tie.Need-slice-write-out-4
-slice-write-out-4 c = simp length-set (omega arith)
-
 returns : tie.Need-returns
 returns c = simp unary-clauses
 
@@ -27,12 +18,12 @@ put-word-spec =
     (λ c. search needs)
     (λ c. search needs)
     (λ c. search needs)
-    slice-write-out-2
+    (λ c. simp length-set (omega arith))
     (λ c. search needs)
     (λ c. search needs)
-    slice-write-out-3
+    (λ c. simp length-set (omega arith))
     (λ c. search needs)
     (λ c. search needs)
-    slice-write-out-4
+    (λ c. simp length-set (omega arith))
     (λ c. search needs)
     returns)
