@@ -1,2 +1,2 @@
--- The file's words and layout, src/file.rt.
+-- The file's words, src/file.rt.
 pub mod Bytes

@@ -1,2 +1,3 @@
 -- A file reduced, src/reduce.rt.
-pub mod Sections
+pub mod Promise
+pub mod WorkingSpace

@@ -18,10 +18,13 @@ Inv-loop bytes from n out₀ j₀ out j = (j ≤ n) × (out ≡ over (wordsIn by
 abbrev μ-loop : tie.MeasureT-loop
 μ-loop bytes from n out₀ j₀ out j = n - j
 
+abbrev start : tie.At-loop Inv-loop μ-loop → tie.Start Inv-loop μ-loop
+start b = b .before .before .before
+
 -- the slice is as long as it was
-same : (b : tie.At-loop Inv-loop μ-loop) → length (b .loop .out) ≡ length (b .before .before .before .args .out .now)
+same : (b : tie.At-loop Inv-loop μ-loop) → length (b .loop .out) ≡ length (start b .args .out .now)
 same b =
-    let a = b .before .before .before .args in
+    let a = start b .args in
     let len = words-length (a .bytes .now) (a .from) (b .loop .j) in
     ap length (b .loop .inv .1) ∙ over-length (wordsIn (a .bytes .now) (a .from) (b .loop .j)) (a .out .now) (omega arith)
 
@@ -29,23 +32,15 @@ loop-holds : tie.Need-loop-holds Inv-loop μ-loop
 unfolding wordsIn
 loop-holds c = (search needs, refl)
 
-slice-write-out : tie.Need-slice-write-out Inv-loop μ-loop
-slice-write-out c = omega (arith, same (c .before .before))
-
 loop-again : tie.Need-loop-again Inv-loop μ-loop
 loop-again c =
     let b = c .before .before in
-    let a = c .before .before .before .before .before .args in
-    (search needs, words-next (a .bytes .now) (a .from) (b .loop .j) (b .loop .out) (a .out .now) (c .word-at .result) (b .loop .inv .1) (omega (arith, c .before .loop-test .taken, c .before .before .before .before .before .pre .1)) (c .word-at .ensures))
-
-same-length : tie.Need-same-length Inv-loop μ-loop
-same-length c = same (c .before)
+    (search needs, words-next _ _ _ _ (b .loop .inv .1) (omega (arith, c .before)) (c .word-at .ensures))
 
 returns : tie.Need-returns Inv-loop μ-loop
 returns c =
     let b = c .before in
-    let a = c .before .before .before .before .args in
-    let e : b .loop .j ≡ a .n = omega arith in
+    let e : b .loop .j ≡ start b .args .n = omega arith in
     rw e at (b .loop .inv .1)
 
 pub read-words-spec : {M : Type 1} → statement M
@@ -58,9 +53,9 @@ read-words-spec =
     (λ c. search needs)
     (λ c κs. search needs)
     (λ c. search needs)
-    slice-write-out
+    (λ c. omega (arith, same (c .before .before)))
     (λ c. search needs)
     (λ c. search needs)
     loop-again
-    same-length
+    (λ c. same (c .before))
     returns)

@@ -1,108 +1,88 @@
 -- `rudzaviks::reduce::reduce_sections` meets its contract: the sections are read whole, and reduced.
 -- The working space holds any list and table of a well-formed file.
-use mathlib.Core.Path.{_≡_, sym, ap, _∙_}
-use Rattle.rudzaviks.specs.File.{wordsIn}
-use Rattle.rudzaviks.proofs.file.Bytes.{words-length}
-use Rattle.rudzaviks.proofs.reduce.Sections.{Sections, sections, words-read, list-is, table-is, answer-in, out-in}
-use lib.ListN.{length, take, replicate, length-replicate}
 use Prim.Native.Nat.{ℕ, _+_, _*_}
+use mathlib.Core.Path.{sym}
 use native.Mathlib.Omega.{arith}
+use lib.ListN.{replicate, length-replicate}
 use borrow.Author.Needs.{needs}
+use Rattle.rudzaviks.specs.File.{tableIn, listIn}
+use Rattle.rudzaviks.proofs.file.Bytes.{Read, read}
+use Rattle.rudzaviks.proofs.FileVerdict.{good-verdict}
+use Rattle.rudzaviks.proofs.Sections.{Sections, sections, table-is, list-is}
 use Rattle.rudzaviks.proofs.reduce.reduce_sections.Statement.{statement}
 use Rattle.rudzaviks.proofs.reduce.reduce_sections.Tie as tie
 
 -- where the sections are
 sections-in : (a : tie.Start) → Sections (a .args .file .now) (a .args .pairs) (a .args .records)
-sections-in a = sections (a .args .file .now) (a .args .pairs) (a .args .records) (a .pre .0)
-
-settings-at-requires : tie.Need-settings-at-requires
-settings-at-requires c κs =
-    let h = sections-in (c .before .before) in
-    omega (arith, h .size)
-
-mul-pair-words : tie.Need-mul-pair-words
-mul-pair-words c =
-    let h = sections-in (c .before .before .before) in
-    omega (arith, h .few-pairs)
-
-mul-list-words : tie.Need-mul-list-words
-mul-list-words c =
-    let h = sections-in (c .before .before .before) in
-    omega (arith, h .few-records)
+sections-in a = sections (a .pre .0)
 
 read-words-requires : tie.Need-read-words-requires
 read-words-requires c κs =
     let h = sections-in (c .before .before .before .before) in
     (omega (arith, h .size), rw (length-replicate {A = ℕ} 1024 0) (omega (arith, h .few-pairs)))
 
-add-read-words : tie.Need-add-read-words
-add-read-words c =
-    let h = sections-in (c .before .before .before .before .before .before) in
-    omega (arith, h .few-pairs)
-
 read-words-requires-2 : tie.Need-read-words-requires-2
 read-words-requires-2 c κs =
     let h = sections-in (c .before .before .before .before .before .before .before) in
     (omega (arith, h .size), rw (length-replicate {A = ℕ} 4096 0) (omega (arith, h .few-records)))
 
--- what was read
-list-read : (c : tie.After-list2) → take (c .before .before .before .before .before .before .before .before .before .args .records * 8) (c .before .read-words2 .last .1 .1 .1 .0) ≡ wordsIn (c .before .before .before .before .before .before .before .before .before .args .file .now) (7 + c .before .before .before .before .before .before .before .before .before .args .pairs * 2) (c .before .before .before .before .before .before .before .before .before .args .records * 8)
-list-read c =
-    let a = c .before .before .before .before .before .before .before .before .before .args in
-    words-read (a .file .now) (7 + a .pairs * 2) (a .records * 8) (replicate 4096 0) (c .before .read-words2 .ensures)
+-- where both were read: where the call began, and what the space holds
+abbrev start : tie.After-read-words2 → tie.Start
+start r = r .before .before .before .before .before .before .before .before
 
-list-count : (c : tie.After-list2) → length (take (c .before .before .before .before .before .before .before .before .before .args .records * 8) (c .before .read-words2 .last .1 .1 .1 .0)) ≡ c .before .before .before .before .before .before .before .before .before .args .records * 8
-list-count c =
-    let a = c .before .before .before .before .before .before .before .before .before .args in
-    ap length (list-read c) ∙ words-length (a .file .now) (7 + a .pairs * 2) (a .records * 8)
+table-read : (r : tie.After-read-words2)
+    → Read (tableIn (start r .args .file .now)) (start r .args .pairs * 2) (r .before .before .before .read-words .last .1 .1 .1 .0)
+table-read r =
+    let a = start r .args in
+    read (a .file .now) 6 (a .pairs * 2) (replicate 1024 0) (table-is (sections-in (start r))) (r .before .before .before .read-words .ensures)
 
-table-read : (c : tie.After-table2) → take (c .before .before .before .before .before .before .args .pairs * 2) (c .before .read-words .last .1 .1 .1 .0) ≡ wordsIn (c .before .before .before .before .before .before .args .file .now) 6 (c .before .before .before .before .before .before .args .pairs * 2)
-table-read c =
-    let a = c .before .before .before .before .before .before .args in
-    words-read (a .file .now) 6 (a .pairs * 2) (replicate 1024 0) (c .before .read-words .ensures)
-
-table-count : (c : tie.After-table2) → length (take (c .before .before .before .before .before .before .args .pairs * 2) (c .before .read-words .last .1 .1 .1 .0)) ≡ c .before .before .before .before .before .before .args .pairs * 2
-table-count c =
-    let a = c .before .before .before .before .before .before .args in
-    ap length (table-read c) ∙ words-length (a .file .now) 6 (a .pairs * 2)
+list-read : (r : tie.After-read-words2)
+    → Read (listIn (start r .args .file .now)) (start r .args .records * 8) (r .read-words2 .last .1 .1 .1 .0)
+list-read r =
+    let a = start r .args in
+    read (a .file .now) (7 + a .pairs * 2) (a .records * 8) (replicate 4096 0) (list-is (sections-in (start r))) (r .read-words2 .ensures)
 
 array-share-prefix-list : tie.Need-array-share-prefix-list
-array-share-prefix-list c = omega (arith, sections-in (c .before .before .before .before .before .before .before .before .before) .few-records, c .before .read-words2 .kept .1 .1 .1 .0, length-replicate {A = ℕ} 4096 0)
+array-share-prefix-list c =
+    let r = c .before in
+    omega (arith, sections-in (start r) .few-records, r .read-words2 .kept .1 .1 .1 .0, length-replicate {A = ℕ} 4096 0)
 
 slice-aggregate-reduce-list : tie.Need-slice-aggregate-reduce-list
-slice-aggregate-reduce-list c = sym (list-count (c .before))
+slice-aggregate-reduce-list c = sym (list-read (c .before .before) .count)
 
 array-share-prefix-table : tie.Need-array-share-prefix-table
-array-share-prefix-table c = omega (arith, sections-in (c .before .before .before .before .before .before .before .before .before .before) .few-pairs, c .before .before .before .before .before .read-words .kept .1 .1 .1 .0, length-replicate {A = ℕ} 1024 0)
+array-share-prefix-table c =
+    let r = c .before .before in
+    omega (arith, sections-in (start r) .few-pairs, r .before .before .before .read-words .kept .1 .1 .1 .0, length-replicate {A = ℕ} 1024 0)
 
 slice-aggregate-reduce-list-2 : tie.Need-slice-aggregate-reduce-list-2
-slice-aggregate-reduce-list-2 c = sym (table-count (c .before .before .before .before .before))
+slice-aggregate-reduce-list-2 c = sym (table-read (c .before .before .before) .count)
 
 reduce-list-requires : tie.Need-reduce-list-requires
 reduce-list-requires c κs =
-    let h = sections-in (c .before .before .before .before .before .before .before .before .before .before .before .before) in
-    (rw (list-count (c .before .before .before)) (omega (arith, h .few-records)), (rw (table-count (c .before .before .before .before .before .before)) (omega (arith, h .few-pairs)), λ r. rw (list-count (c .before .before .before)) (c .before .before .before .before .before .before .before .before .before .before .before .before .pre .1 r)))
+    let r = c .before .before .before .before in
+    let h = sections-in (start r) in
+    let l = list-read r .count in
+    let t = table-read r .count in
+    (omega (arith, h .few-records), (omega (arith, h .few-pairs), λ room. rw l (start r .pre .1 room)))
 
 returns : tie.Need-returns
 returns c =
-    let a = c .before .before .before .before .before .before .before .before .before .before .before .before .before .before .before .args in
-    let h = sections-in (c .before .before .before .before .before .before .before .before .before .before .before .before .before .before .before) in
-    let l = list-read (c .before .before .before .before .before .before) ∙ list-is (a .file .now) (a .pairs) (a .records) h in
-    let t = table-read (c .before .before .before .before .before .before .before .before .before) ∙ table-is (a .file .now) (a .pairs) (a .records) h in (
-      c .before .before .reduce-list .ensures .0 ∙ answer-in (a .file .now) (a .pairs) (a .records) h (a .room) (c .before .before .before .before .before .before .before .before .before .before .before .before .settings-at .ensures) l t,
-      c .before .before .reduce-list .ensures .1 ∙ out-in (a .file .now) (a .pairs) (a .records) h (a .room) (c .before .before .before .before .before .before .before .before .before .before .before .before .settings-at .ensures) l t (a .out .now),
-    )
+    let r = c .before .before .before .before .before .before .before in
+    let settings = r .before .before .before .before .before .settings-at .ensures in
+    let verdict = good-verdict (sections-in (start r)) (start r .args .room) in
+    rw (← verdict, ← settings, ← list-read r .are, ← table-read r .are) (c .before .before .reduce-list .ensures)
 
 pub reduce-sections-spec : {M : Type 1} → statement M
 reduce-sections-spec =
     tie.close
     (tie.spec
-    settings-at-requires
-    mul-pair-words
-    mul-list-words
+    (λ c κs. omega (arith, sections-in (c .before .before)))
+    (λ c. omega (arith, sections-in (c .before .before .before)))
+    (λ c. omega (arith, sections-in (c .before .before .before)))
     (λ c. search needs)
     read-words-requires
-    add-read-words
+    (λ c. omega (arith, sections-in (c .before .before .before .before .before .before)))
     (λ c. search needs)
     read-words-requires-2
     array-share-prefix-list
