@@ -58,15 +58,10 @@ reduce-bytes-spec =
     (λ c. omega (arith, sections-in (c .before .before)))
     (λ c. search needs)
     reduce-sections-requires
-    (λ c. search needs)
-    (λ c. search needs)
-    (λ c. search needs)
+    (λ c. search needs) (λ c. search needs) (λ c. search needs)
     array-share-prefix-words
     slice-aggregate-write-words
     write-words-requires
-    (λ c. search needs)
-    (λ c. search needs)
-    (λ c κs. search needs)
-    (λ c. search needs)
+    (λ c. search needs) (λ c. search needs) (λ c κs. search needs) (λ c. search needs)
     returns
     returns-2)

@@ -18,12 +18,10 @@ pub used-word-spec : {M : Type 1} → statement M
 used-word-spec =
     tie.close
     (tie.spec
-    (λ c. search needs)
-    (λ c. search needs)
+    (λ c. search needs) (λ c. search needs)
     (λ c. omega (arith, few (c .before)))
     (λ c. search needs)
     (λ c. omega (arith, few (c .before)))
-    (λ c. search needs)
-    (λ c κs. search needs)
+    (λ c. search needs) (λ c κs. search needs)
     returns
     returns-2)

@@ -35,11 +35,9 @@ pub reduce-file-spec : {M : Type 1} → statement M
 reduce-file-spec =
     tie.close
     (tie.spec
-    (λ c κs. search needs)
-    (λ c. search needs)
+    (λ c κs. search needs) (λ c. search needs)
     mul-room
     reduce-sections-requires
-    (λ c. search needs)
-    (λ c. search needs)
+    (λ c. search needs) (λ c. search needs)
     returns
     returns-2)
