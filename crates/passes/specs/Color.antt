@@ -13,7 +13,7 @@ use Rattle.mir.specs.declared.rename.Current.{Current}
 use Rattle.mir.specs.declared.rename.Current.the-variants.{Static, Unset}
 use Rattle.mir.specs.declared.shape.Action.{Action}
 use Rattle.mir.specs.declared.shape.Action.the-variants as action
-use Rattle.mir.specs.Records.{records, recordAt, wordAt, isGen, maxRegs}
+use Rattle.mir.specs.Records.{recordAt, wordAt, isGen, maxRegs}
 use Rattle.mir.specs.Renaming.{regsTo}
 use Rattle.mir.specs.Shapes.{shapeFor, dests, sources}
 use Rattle.passes.specs.declared.alloc.Alloc.{Alloc}

@@ -1,8 +1,8 @@
 -- Public: the answers of the exported functions, each as one 64-bit word. Bits 32 to 55 hold the number of the question that
 -- refused the list, 0 for none, so a refusal is never taken for an answer; a refusal's index stands in bits 0 to 31.
-use Prim.Native.Nat.{ℕ, _+_, _*_, _≤_, _^_}
+use Prim.Native.Nat.{ℕ, _+_, _*_, _^_}
 use mathlib.Core.Bool.{Bool, not, _&&_}
-use mathlib.Core.List.{List, [], _∷_}
+use mathlib.Core.List.{List}
 use mathlib.Core.Path.{_≡_}
 use lib.Dec.{eqb, leb}
 use lib.ListN.{getD, length, take}

@@ -13,7 +13,6 @@ ghost use Prim.Native.Nat.{_+_, _*_, _≤_};
 ghost use mathlib.Core.Bool.{true};
 ghost use mathlib.Core.List.{[]};
 ghost use mathlib.Core.Path.{_≡_};
-ghost use lib.Dec.{leb};
 ghost use lib.ListN.{length};
 ghost use Rattle.allocator.specs.Optimize.{countsOf, report, left};
 ghost use Rattle.rudzaviks.specs.declared.file.Layout.the-variants.{Counts};
