@@ -3,7 +3,7 @@
 use Prim.Native.Nat.{ℕ, _*_}
 use mathlib.Core.Bool.{true}
 use mathlib.Core.List.{List}
-use mathlib.Core.Path.{_≡_, refl, sym, ap, _∙_}
+use mathlib.Core.Path.{_≡_, refl, sym, ap, subst, _∙_}
 use native.Mathlib.Omega.{arith}
 use lib.ListN.{length, take}
 use Rattle.mir.specs.declared.config.Settings.{Settings}
@@ -15,7 +15,7 @@ use Rattle.passes.specs.declared.alloc.Outcome.the-variants.{Kept}
 use Rattle.passes.specs.Color.{setup}
 use Rattle.passes.specs.Contract.{reduced, coloursOf, membersOf, countOf}
 use Rattle.passes.specs.Create.{endsOf}
-use Rattle.passes.specs.Machine.{Passing}
+use Rattle.passes.specs.Machine.{Passing, EndsEqual, run}
 use Rattle.passes.proofs.Lengths.{reduced-length}
 use Rattle.passes.proofs.Preserved.{preserved}
 use Rattle.allocator.specs.declared.Answer.the-variants.{Reduced, Refused}
@@ -55,7 +55,8 @@ module _ {s : Settings} {list table : List ℕ} {held : Lent} where
         colours = w .colours ∙ sym (ap (λ u. left u (coloursOf s list table) (held .colours)) v);
         ends = w .ends ∙ sym (ap (λ u. left u (endsOf list) (held .ends)) v);
         set = w .set ∙ sym (ap (λ u. left u (wordsOf (membersOf s list table)) (held .set)) v);
-        preserved = λ p scalar k start. rw kept (preserved s list table (passing s list table held p) scalar k start);
+        preserved = λ p scalar k start.
+            subst (λ l. EndsEqual s (run k list start) (run k l start)) (sym kept) (preserved s list table (passing s list table held p) scalar k start);
       }
     where
       kept : take (recordsIn (report (Reduced r)) * 8) (now .out) ≡ reduced s list table
