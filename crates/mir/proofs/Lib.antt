@@ -1,6 +1,7 @@
 -- Laws that several functions' proofs, and the crates above, cite.
 pub mod Clash
 pub mod Folds
+pub mod Limits
 pub mod Masks
 pub mod Passing
 pub mod Records

@@ -12,12 +12,13 @@ use lib.Pow.{pow-lt}
 use borrow.Author.Tests.{lt-ltb, le-ltb, eq-eqb, ne-eqb}
 use Rattle.mir.specs.Beside.{bits, counted, maskOf, getDst}
 use Rattle.mir.specs.Folds.{all}
-use Rattle.mir.specs.Records.{wordAt, maxRegs}
+use Rattle.mir.specs.Records.{wordAt}
 use Rattle.mir.specs.Shapes.{branchIf, shapeOf, dests, sources}
 use Rattle.mir.proofs.Shapes.{sources-are}
 
-pub bit-is : (w : ℕ) → w < maxRegs → 1 * 2 ^ w % 4294967296 ≡ 2 ^ w
-bit-is w h = rw one-mul (mod-eq-of-lt (pow-lt h))
+-- a shift within a word of k bits
+pub bit-is : (k w : ℕ) → w < k → 1 * 2 ^ w % 2 ^ k ≡ 2 ^ w
+bit-is k w h = rw one-mul (mod-eq-of-lt (pow-lt h))
 
 pub mask-one : (w : ℕ) → w < 256 → maskOf (w ∷ []) ≡ 2 ^ w
 unfolding maskOf all bits

@@ -2,12 +2,16 @@
 -- By one law on the words from any place, any number of them.
 use Prim.Native.Nat.{ℕ, zero, suc, _+_, _*_, _≤_, _<_}
 use mathlib.Core.Path.{_≡_, refl}
-use mathlib.Core.List.{List, [], _∷_}
+use mathlib.Core.List.{List, [], _∷_, _++_, foldr}
 use native.Mathlib.Omega.{arith}
 use native.Mathlib.Nat.{add-zero, add-suc, suc-add}
 use lib.ListN.{length, getD, take, drop}
 use lib.Seq.{drop-cons}
 use Rattle.mir.specs.Records.{recordAt}
+
+-- records in a row, as a list of words
+abbrev pub flat : List (List ℕ) → List ℕ
+flat = foldr _++_ []
 
 -- f 0, f 1, and so on, n of them
 abbrev pub tabulate : ℕ → (ℕ → ℕ) → List ℕ

@@ -2,6 +2,7 @@
 -- lists by computation, and the Arm flag
 pub mod Cases
 pub mod Lists
+pub mod MachineCases
 pub mod Arm
 -- renaming, colouring, the read set and contracting
 pub mod Update

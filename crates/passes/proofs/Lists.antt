@@ -1,8 +1,9 @@
--- A dozen lists through the definitions, with what the original makes of each: the reduced list, the statics, the drops.
--- By computation; the right sides are the original's, printed by the importer.
+-- Twelve lists through the definitions, with what the original makes of each: the reduced list, the drops, the statics, and
+-- the read set's members, whose order is document 01's rule, since the original has none.
+-- By computation; the right sides are printed by the importer, from what the original leaves.
 use Prim.Native.Nat.{ℕ}
 use mathlib.Core.Bool.{Bool, true, false}
-use mathlib.Core.List.{List, [], _∷_, _++_, foldr, zip, zipWith}
+use mathlib.Core.List.{List, [], _∷_, map, zip, zipWith}
 use mathlib.Core.Path.{_≡_, refl}
 use Rattle.mir.specs.declared.config.Settings.{Settings}
 use Rattle.mir.specs.Answers.{Report, answered, unless}
@@ -12,8 +13,10 @@ use Rattle.mir.specs.Questions.{pairsFit, gensFit, partnerFits, sourcesNamed}
 use Rattle.mir.specs.Records.{records, recordAt, fixedMark}
 use Rattle.mir.specs.Renaming.{gens, produced, renamed, staticsTo, regsTo}
 use Rattle.mir.specs.Shapes.{row, shapeOf, dests, sources, registers}
+use Rattle.mir.proofs.Records.{flat}
 use Rattle.passes.specs.declared.alloc.Outcome.{Outcome}
 use Rattle.passes.specs.declared.alloc.Outcome.the-variants.{Nop, Load, Move, Save}
+use Rattle.passes.specs.declared.symbol.Loc.{Loc}
 use Rattle.passes.specs.Create.{consumed, endsTo, endsOf}
 use Rattle.passes.specs.Color.{Coloring, setup, pairsFrom, firstBelow, plainChoice, choose, afterDest, wordFor, afterDests, wordsFor}
 use Rattle.passes.specs.Color.{foundFirst, isMember, joined, colored, colorStep, colorTo}
@@ -25,10 +28,6 @@ pub record Input : Type 0 where
   pub settings : Settings
   pub table : List ℕ
   pub list : List ℕ
-
--- records in a row
-abbrev pub flat : List (List ℕ) → List ℕ
-flat = foldr _++_ []
 
 -- the settings in section 1's order, the table, the records
 abbrev pub input : ℕ → ℕ → Bool → Bool → Bool → List ℕ → List (List ℕ) → Input
@@ -43,20 +42,23 @@ input n args complex arm compress table recs =
 pub of : Input → Report
 of it = unless (refusal true (it .settings) (it .list) (it .table)) (reduced (it .settings) (it .list) (it .table))
 
--- the dropped nops, loads, moves and saves; each static's colour and end
+-- the dropped nops, loads, moves and saves; each static's colour and end; each member's space and index, in joining order
 pub record Account : Type 0 where
   pub nops : ℕ
   pub loads : ℕ
   pub moves : ℕ
   pub saves : ℕ
   pub statics : List (ℕ × ℕ)
+  pub members : List (ℕ × ℕ)
 
-abbrev pub counts : ℕ → ℕ → ℕ → ℕ → List (ℕ × ℕ) → Account
-counts nops loads moves saves statics =
-    record { nops = nops; loads = loads; moves = moves; saves = saves; statics = statics }
+abbrev pub counts : ℕ → ℕ → ℕ → ℕ → List (ℕ × ℕ) → List (ℕ × ℕ) → Account
+counts nops loads moves saves statics members =
+    record { nops = nops; loads = loads; moves = moves; saves = saves; statics = statics; members = members }
 
 pub account : Input → Account
-account it = counts (dropped Nop) (dropped Load) (dropped Move) (dropped Save) (zip (after .colours) (endsOf (it .list)))
+account it =
+    counts (dropped Nop) (dropped Load) (dropped Move) (dropped Save) (zip (after .colours) (endsOf (it .list)))
+    (map (λ (l : Loc). (l .space, l .index)) (after .members))
   where
     dropped : Outcome → ℕ
     dropped f = countOf f (it .settings) (it .list) (it .table)
@@ -275,43 +277,59 @@ pub record StoredAccounts : Type 0 where
   pub named-registers :
       account namedRegisters
       ≡ counts 0 0 1 0 ((0, 5) ∷ (0, 8) ∷ (1, 9) ∷ [])
+      ((mem, 0) ∷ [])
   pub moves :
       account moves
       ≡ counts 1 0 2 0 ((0, 5) ∷ (1, 5) ∷ (0, 5) ∷ (1, 6) ∷ (1, 8) ∷ (0, 9) ∷ [])
+      []
   pub first-free :
       account firstFree
       ≡ counts 0 1 0 0 ((0, 2) ∷ (1, 2) ∷ (2, 6) ∷ (0, 6) ∷ (1, 4) ∷ (1, 6) ∷ (0, 7) ∷ (2, 9) ∷ [])
+      ((mem, 0) ∷ (mem, 1) ∷ [])
   pub older-holder :
       account olderHolder
       ≡ counts 0 1 0 0 ((0, 6) ∷ (1, 6) ∷ (2, 2) ∷ (1, 4) ∷ (2, 6) ∷ (0, 9) ∷ (1, 9) ∷ [])
+      ((mem, 0) ∷ (param, 1) ∷ (param, 0) ∷ [])
   pub read-by-others :
       account readByOthers
       ≡ counts 0 0 0 1 ((0, 6) ∷ (1, 7) ∷ (1, 9) ∷ [])
+      ((stack, 22) ∷ (stack, 20) ∷ (mem, 0) ∷ (stack, 21) ∷ [])
   pub dropped-loads :
       account droppedLoads
       ≡ counts 0 2 0 3 ((0, 4) ∷ (0, 3) ∷ (1, 9) ∷ (0, 9) ∷ [])
+      ((stack, 17) ∷ [])
   pub complex-mark :
       account complexMark
       ≡ counts 0 1 0 2 ((0, 4) ∷ (1, 4) ∷ (0, 8) ∷ (1, 5) ∷ (2, 6) ∷ (1, 8) ∷ (2, 8) ∷ [])
+      ((mem, 0) ∷ (mem, 1) ∷ (stack, 24) ∷ (stack, 25) ∷ (stack, 27) ∷ [])
   pub complex-loads :
       account complexLoads
       ≡ counts 0 4 0 0 ((0, 0) ∷ (1, 3) ∷ (0, 3) ∷ (2, 3) ∷ (1, 6) ∷ (3, 3) ∷ (2, 4) ∷ (0, 5) ∷ (1, 7) ∷ (0, 8)
       ∷ (0, 9) ∷ [])
+      ((mem, 4) ∷ (mem, 5) ∷ [])
   pub same-register :
       account sameRegister
       ≡ counts 0 2 0 1 ((0, 0) ∷ (1, 2) ∷ (0, 1) ∷ (0, 2) ∷ (0, 2) ∷ (0, 3) ∷ (0, 4) ∷ (0, 6) ∷ (0, 7) ∷ (0, 8) ∷ [])
+      ((mem, 0) ∷ (mem, 1) ∷ (param, 0) ∷ (param, 1) ∷ (stack, 16) ∷ (mem, 7) ∷ [])
   pub label-and-call :
       account labelAndCall
       ≡ counts 0 0 0 0 ((0, 0) ∷ (1, 1) ∷ (0, 4) ∷ (0, 8) ∷ (1, 9) ∷ [])
+      ((mem, 0) ∷ (mem, 1) ∷ [])
   pub branches :
       account branches
       ≡ counts 0 0 1 0 ((0, 4) ∷ (1, 2) ∷ (0, 9) ∷ (0, 7) ∷ (0, 6) ∷ [])
+      ((mem, 0) ∷ (mem, 1) ∷ [])
   pub thirty-two :
       account thirtyTwo
       ≡ counts 0 1 0 0 ((0, 0) ∷ (1, 0) ∷ (2, 1) ∷ (3, 1) ∷ (4, 2) ∷ (5, 2) ∷ (6, 3) ∷ (7, 3) ∷ (8, 4) ∷ (9, 4)
       ∷ (10, 5) ∷ (11, 5) ∷ (12, 6) ∷ (13, 6) ∷ (14, 7) ∷ (15, 7) ∷ (16, 8) ∷ (17, 8) ∷ (18, 9) ∷ (19, 9) ∷ (20, 10)
       ∷ (21, 10) ∷ (22, 11) ∷ (23, 11) ∷ (24, 12) ∷ (25, 12) ∷ (26, 13) ∷ (27, 13) ∷ (28, 14) ∷ (29, 14) ∷ (30, 15)
       ∷ (31, 15) ∷ (31, 18) ∷ (0, 18) ∷ (0, 19) ∷ [])
+      ((param, 0) ∷ (param, 1) ∷ (param, 2) ∷ (param, 3) ∷ (param, 4) ∷ (param, 5) ∷ (param, 6) ∷ (param, 7)
+      ∷ (param, 8) ∷ (param, 9) ∷ (param, 10) ∷ (param, 11) ∷ (param, 12) ∷ (param, 13) ∷ (param, 14) ∷ (param, 15)
+      ∷ (param, 16) ∷ (param, 17) ∷ (param, 18) ∷ (param, 19) ∷ (param, 20) ∷ (param, 21) ∷ (param, 22) ∷ (param, 23)
+      ∷ (param, 24) ∷ (param, 25) ∷ (param, 26) ∷ (param, 27) ∷ (param, 28) ∷ (param, 29) ∷ (param, 30) ∷ (param, 31)
+      ∷ [])
 
 pub stored-lists : StoredLists
 unfolding of namedRegisters moves firstFree olderHolder readByOthers droppedLoads complexMark complexLoads sameRegister

@@ -1,8 +1,9 @@
 -- Public, document 01, section 4: contracting. What becomes of each record, the reduced list, and the counts.
 use Prim.Native.Nat.{ℕ, zero, suc, _+_, _-_}
 use mathlib.Core.Bool.{Bool, true, false, cond, _&&_, _||_, not}
-use mathlib.Core.List.{List, [], _++_}
+use mathlib.Core.List.{List, [], _∷_, _++_}
 use lib.Dec.{leb, eqb}
+use lib.ListN.{length}
 use Rattle.mir.specs.declared.config.Settings.{Settings}
 use Rattle.mir.specs.declared.shape.Action.{Action}
 use Rattle.mir.specs.declared.shape.Action.the-variants as action
@@ -73,6 +74,11 @@ coloursOf s list table = colorTo (setup s list table) (records list) .colours
 unfoldable pub membersOf : Settings → List ℕ → List ℕ → List Loc
 membersOf s list table = readSet (setup s list table)
 
+-- locations as words, two each
+unfoldable pub wordsOf : List Loc → List ℕ
+wordsOf [] = []
+wordsOf (l ∷ ls) = l .space ∷ l .index ∷ wordsOf ls
+
 -- how many of the first n records have an outcome
 abbrev pub outcomeNumber : Outcome → ℕ
 outcomeNumber Kept = 0
@@ -87,3 +93,15 @@ countTo f mark u (suc i) = countTo f mark u i + cond (eqb (outcomeNumber (outcom
 
 unfoldable pub countOf : Outcome → Settings → List ℕ → List ℕ → ℕ
 countOf f s list table = countTo f (fixedMark s) (setup s list table) (records list)
+
+-- what the result counts: records, statics and set members, and dropped nops, loads, moves and saves
+unfoldable pub countsOf : Settings → List ℕ → List ℕ → List ℕ
+countsOf s list table =
+    countOf Kept s list table
+    ∷ length (coloursOf s list table)
+    ∷ length (membersOf s list table)
+    ∷ countOf Nop s list table
+    ∷ countOf Load s list table
+    ∷ countOf Move s list table
+    ∷ countOf Save s list table
+    ∷ []

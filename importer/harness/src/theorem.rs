@@ -84,12 +84,17 @@ fn records(words: &[u32]) -> String {
     row(words.chunks_exact(WORDS).map(record))
 }
 
+/// An antt list as an argument.
+fn argument(elements: impl Iterator<Item = String>) -> String {
+    match row(elements) {
+        none if none == "[]" => none,
+        some => format!("({some})"),
+    }
+}
+
 fn table(words: &[u32]) -> String {
     let pair = |pair: &[u32]| [word(Role::Space, pair[0]), pair[1].to_string()];
-    match words {
-        [] => "[]".into(),
-        _ => format!("({})", row(words.chunks_exact(2).flat_map(pair))),
-    }
+    argument(words.chunks_exact(2).flat_map(pair))
 }
 
 /// The list's own name in antt: `first-free` is of the list `firstFree`.
@@ -108,21 +113,23 @@ fn definition(Named { name, shows, list }: &Named) -> String {
     format!("-- {shows}\npub {name} : Input\n{name} =\n{input}{records}")
 }
 
-/// A field of a record of equations.
-fn field(name: &str, of: &str, is: &str) -> String {
+/// A field of a record of equations; the parts of the right side begin a line each.
+fn field(name: &str, of: &str, is: &[String]) -> String {
     let list = list_name(name);
-    format!("  pub {name} :\n      {of} {list}\n{}", wrapped("      ", &format!("≡ {is}")))
+    let right: String = is.iter().map(|part| wrapped("      ", part)).collect();
+    format!("  pub {name} :\n      {of} {list}\n{right}")
 }
 
 fn reduced(Named { name, list, .. }: &Named) -> String {
-    field(name, "of", &format!("answered (flat ({}))", records(&run::optimize(list))))
+    field(name, "of", &[format!("≡ answered (flat ({}))", records(&run::optimize(list)))])
 }
 
 fn account(Named { name, list, .. }: &Named) -> String {
-    let Reduced { dropped: [nops, loads, moves, saves], statics, .. } = run::reduced(list);
-    let statics = statics.into_iter().map(|(colour, end)| format!("({colour}, {end})"));
-    let is = format!("counts {nops} {loads} {moves} {saves} ({})", row(statics));
-    field(name, "account", &is)
+    let Reduced { dropped: [nops, loads, moves, saves], statics, members, .. } = run::reduced(list);
+    let statics = argument(statics.iter().map(|(colour, end)| format!("({colour}, {end})")));
+    let member = |(space, index): &(u32, u32)| format!("({}, {index})", word(Role::Space, *space));
+    let counts = format!("≡ counts {nops} {loads} {moves} {saves} {statics}");
+    field(name, "account", &[counts, argument(members.iter().map(member))])
 }
 
 /// The lists, then the two records of equations.

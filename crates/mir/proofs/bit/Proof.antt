@@ -8,7 +8,7 @@ shl-result : tie.Need-shl-result
 shl-result c = c .before .pre (c .if1 .taken)
 
 returns : tie.Need-returns
-returns c = bit-is _ (c .before .pre (c .if1 .taken)) ∙ sym (mask-one _ (c .if1 .taken))
+returns c = bit-is 32 _ (c .before .pre (c .if1 .taken)) ∙ sym (mask-one _ (c .if1 .taken))
 
 returns-2 : tie.Need-returns-2
 returns-2 c = sym (mask-named _ _ (c .if1 .left))

@@ -19,7 +19,7 @@ shl-result-2 c = c .before .before .pre .1 (c .if2 .left)
 returns-3 : tie.Need-returns-3
 returns-3 c =
     let s = c .before .before in
-    rw (bit-is _ (s .pre .0 (c .before .if1 .left)), bit-is _ (s .pre .1 (c .if2 .left)))
+    rw (bit-is 32 _ (s .pre .0 (c .before .if1 .left)), bit-is 32 _ (s .pre .1 (c .if2 .left)))
     (sym (mask-two _ _ (c .before .if1 .left) (c .if2 .left)))
 
 pub two-bits-spec : {M : Type 1} → statement M

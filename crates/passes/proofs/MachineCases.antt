@@ -1,0 +1,187 @@
+-- The plain machine on small lists, at least one for each kind that it runs, with the words that it must leave; what a word
+-- is; and which differences `EndsEqual` tells, and which not.
+-- The lists by computation: each place starts with a word of its own, and an operation's word shows its operands in order.
+use Prim.Native.Nat.{ℕ, _+_, _-_, _*_, _%_, _<_, _≤_}
+use mathlib.Core.Bool.{Bool, true, false, cond}
+use mathlib.Core.List.{List, [], _∷_}
+use mathlib.Core.Path.{_≡_, refl, sym, _∙_}
+use native.Mathlib.Nat.{mod-lt}
+use native.Mathlib.Omega.{arith}
+use lib.Dec.{eqb, ltb}
+use borrow.Author.Tests.{eq-eqb, ne-eqb}
+use Rattle.mir.specs.declared.config.Settings.{Settings}
+use Rattle.mir.specs.Records.{recordAt, fixedMark}
+use Rattle.mir.proofs.Records.{flat}
+use Rattle.passes.specs.Machine.{Word, Meaning, State, write, store, effect, turn, runTo, run, EndsEqual}
+use Rattle.passes.proofs.Cases.{loadConst, load, save, mov, stack, mem}
+use Rattle.passes.proofs.Lists.{nop, end, uni, bi, fused, ifElse, loadMath, loadConstMath, param, ret, temp, left, right}
+
+-- ---- words
+
+-- a word's number is below 2^64, and every such number is a word's
+pub word-below : (w : Word) → w .number < 18446744073709551616
+word-below w = w .fits
+
+pub wordOf : (n : ℕ) → n < 18446744073709551616 → Word
+wordOf n h = record { number = n; fits = h }
+
+-- ---- lists
+
+pub word : ℕ → Word
+word n = wordOf (n % 18446744073709551616) (mod-lt n (omega arith))
+
+-- Gen registers 10, 11 .., the named ones 20 to 23; Stack 30, 31 .., Mem 40, 41 .., Param 0, 2^32 ..; constants 60, 61 ..
+pub start : Bool → State
+start over =
+    record {
+      reg = λ r. word (cond (ltb r 256) (10 + r) (r - 236));
+      cell = λ p i. word (cond (eqb p param) (i * 4294967296) (30 + 10 * p + i));
+      const = λ k. word (60 + k);
+      over = over;
+    }
+
+-- the operation and its operands, as one number
+pub digits : Meaning
+digits =
+    record {
+      uni = λ op a. word (op * 100 + a .number);
+      bi = λ op a b. word (op * 10000 + a .number * 100 + b .number);
+      fused = λ op a b c. word (op * 1000000 + a .number * 10000 + b .number * 100 + c .number);
+    }
+
+-- the words at three Gen registers, the named ones, and two cells of each space
+pub record Words : Type 0 where
+  pub gens : List ℕ
+  pub named : List ℕ
+  pub stacks : List ℕ
+  pub mems : List ℕ
+  pub params : List ℕ
+
+abbrev words : List ℕ → List ℕ → List ℕ → List ℕ → List ℕ → Words
+words gens named stacks mems params =
+    record { gens = gens; named = named; stacks = stacks; mems = mems; params = params }
+
+pub seen : State → Words
+seen st =
+    words (reg 0 ∷ reg 1 ∷ reg 2 ∷ []) (reg ret ∷ reg temp ∷ reg left ∷ reg right ∷ []) (cell stack 0 ∷ cell stack 1 ∷ [])
+    (cell mem 0 ∷ cell mem 1 ∷ []) (cell param 0 ∷ cell param 1 ∷ [])
+  where
+    reg : ℕ → ℕ
+    reg r = st .reg r .number
+
+    cell : ℕ → ℕ → ℕ
+    cell p i = st .cell p i .number
+
+pub after : List (List ℕ) → Words
+after recs = seen (run digits (flat recs) (start false))
+
+-- what the machine starts with, and what a list leaves of it
+abbrev untouched : Words
+untouched = words (10 ∷ 11 ∷ 12 ∷ []) (20 ∷ 21 ∷ 22 ∷ 23 ∷ []) (30 ∷ 31 ∷ []) (40 ∷ 41 ∷ []) (0 ∷ 4294967296 ∷ [])
+
+abbrev gens : ℕ → ℕ → ℕ → Words
+gens a b c = words (a ∷ b ∷ c ∷ []) (20 ∷ 21 ∷ 22 ∷ 23 ∷ []) (30 ∷ 31 ∷ []) (40 ∷ 41 ∷ []) (0 ∷ 4294967296 ∷ [])
+
+abbrev named : ℕ → ℕ → ℕ → ℕ → Words
+named a b c d = words (10 ∷ 11 ∷ 12 ∷ []) (a ∷ b ∷ c ∷ d ∷ []) (30 ∷ 31 ∷ []) (40 ∷ 41 ∷ []) (0 ∷ 4294967296 ∷ [])
+
+pub record MachineCases : Type 0 where
+  pub no-record : after [] ≡ untouched
+  pub of-nop : after (nop ∷ []) ≡ untouched
+  -- End stops the run: what comes after it does nothing
+  pub of-end : after (mov ret 0 ∷ end ∷ mov temp 0 ∷ save 0 mem 0 ∷ nop ∷ []) ≡ named 10 21 22 23
+  pub ended : seen (run digits (flat (mov ret 0 ∷ save 0 mem 0 ∷ [])) (start true)) ≡ untouched
+  pub of-uni : after (uni 19 2 1 ∷ []) ≡ gens 10 11 1911
+  pub of-bi : after (bi 14 0 1 2 ∷ []) ≡ gens 141112 11 12
+  pub of-mov : after (mov 1 0 ∷ []) ≡ gens 10 10 12
+  -- each named register is read and written
+  pub named-written : after (mov ret 0 ∷ mov temp 1 ∷ mov left 2 ∷ mov right left ∷ []) ≡ named 10 11 12 12
+  pub named-read : after (mov 0 ret ∷ mov 1 temp ∷ bi 1 2 left right ∷ []) ≡ gens 20 21 12223
+  pub of-load : after (load 0 stack 1 ∷ load 1 mem 1 ∷ load 2 param 1 ∷ []) ≡ gens 31 41 4294967296
+  pub of-save :
+      after (save 0 stack 1 ∷ save 1 mem 0 ∷ save left param 1 ∷ [])
+      ≡ words (10 ∷ 11 ∷ 12 ∷ []) (20 ∷ 21 ∷ 22 ∷ 23 ∷ []) (30 ∷ 10 ∷ []) (11 ∷ 41 ∷ []) (0 ∷ 22 ∷ [])
+  -- a constant's word above 2^32
+  pub of-load-const : after (loadConst 2 1 ∷ loadConst ret 4294967295 ∷ []) ≡ words (10 ∷ 11 ∷ 61 ∷ []) (4294967355 ∷ 21 ∷ 22 ∷ 23 ∷ [])
+      (30 ∷ 31 ∷ []) (40 ∷ 41 ∷ []) (0 ∷ 4294967296 ∷ [])
+  pub of-fused : after (fused 3 1 0 1 2 ∷ []) ≡ gens 10 3101112 12
+  -- the condition's word is 0, is not, and is not though its low half is
+  pub if-false : after (ifElse 0 1 2 param 0 ∷ []) ≡ gens 12 11 12
+  pub if-true : after (ifElse 0 1 2 mem 0 ∷ []) ≡ gens 11 11 12
+  pub if-high : after (ifElse 0 1 2 param 1 ∷ []) ≡ gens 11 11 12
+  pub of-load-math : after (loadMath 3 0 1 mem 1 ∷ []) ≡ gens 31141 11 12
+  pub of-load-const-math : after (loadConstMath 2 0 1 3 ∷ []) ≡ gens 21163 11 12
+  -- each record runs on the state that the one before it left, and reads before it writes
+  pub in-order : after (uni 1 0 0 ∷ uni 2 0 0 ∷ save 0 mem 1 ∷ mov 1 2 ∷ load 2 mem 1 ∷ [])
+      ≡ words (310 ∷ 12 ∷ 310 ∷ []) (20 ∷ 21 ∷ 22 ∷ 23 ∷ []) (30 ∷ 31 ∷ []) (40 ∷ 310 ∷ []) (0 ∷ 4294967296 ∷ [])
+
+pub machine-cases : MachineCases
+unfolding word wordOf start digits seen after recordAt effect turn runTo run
+machine-cases =
+    record {
+      no-record = refl;
+      of-nop = refl;
+      of-end = refl;
+      ended = refl;
+      of-uni = refl;
+      of-bi = refl;
+      of-mov = refl;
+      named-written = refl;
+      named-read = refl;
+      of-load = refl;
+      of-save = refl;
+      of-load-const = refl;
+      of-fused = refl;
+      if-false = refl;
+      if-true = refl;
+      if-high = refl;
+      of-load-math = refl;
+      of-load-const-math = refl;
+      in-order = refl;
+    }
+
+-- ---- what is equal at the end
+
+-- two states that differ in one place alone, which has another word v in the first
+module _ (s : Settings) (st : State) (v : Word) where
+  pub named-told : (r : ℕ) → 256 ≤ r → r ≤ 259 → (v ≡ st .reg r → ⊥) → EndsEqual s (write r v st) st → ⊥
+  named-told r low high other h =
+      let e : v ≡ write r v st .reg r = rw (eq-eqb r r refl) in
+      other (e ∙ h .named r low high)
+
+  cell-told : (p i : ℕ) → (v ≡ st .cell p i → ⊥) → store p i v st .cell p i ≡ st .cell p i → ⊥
+  cell-told p i other h =
+      let e : v ≡ store p i v st .cell p i = rw (eq-eqb p p refl, eq-eqb i i refl) in
+      other (e ∙ h)
+
+  pub mem-told : (i : ℕ) → (v ≡ st .cell 1 i → ⊥) → EndsEqual s (store 1 i v st) st → ⊥
+  mem-told i other h = cell-told 1 i other (h .mem i)
+
+  pub param-told : (i : ℕ) → (v ≡ st .cell 2 i → ⊥) → EndsEqual s (store 2 i v st) st → ⊥
+  param-told i other h = cell-told 2 i other (h .param i)
+
+  pub stack-told : (i : ℕ) → i < fixedMark s → (v ≡ st .cell 0 i → ⊥) → EndsEqual s (store 0 i v st) st → ⊥
+  stack-told i below other h = cell-told 0 i other (h .stack i below)
+
+  -- a Gen register, and a Stack cell at or above the mark, may differ
+  pub gen-untold : (r : ℕ) → r < 256 → EndsEqual s (write r v st) st
+  gen-untold r gen =
+      record {
+        named = λ k low high.
+            let other : eqb k r ≡ false = ne-eqb k r (λ (e : k ≡ r). omega arith) in
+            rw other;
+        mem = λ i. refl;
+        param = λ i. refl;
+        stack = λ i below. refl;
+      }
+
+  pub stack-untold : (i : ℕ) → fixedMark s ≤ i → EndsEqual s (store 0 i v st) st
+  stack-untold i beyond =
+      record {
+        named = λ k low high. refl;
+        mem = λ j. refl;
+        param = λ j. refl;
+        stack = λ j below.
+            let other : eqb j i ≡ false = ne-eqb j i (λ (e : j ≡ i). omega arith) in
+            rw other;
+      }
