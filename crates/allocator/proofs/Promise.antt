@@ -1,28 +1,33 @@
 -- The promise of `optimize`: of a list that passes, from what the walks left; of any other, from nothing having changed.
 -- Demand 3 is the theorem about the definitions, put to the words that the output starts with.
-use Prim.Native.Nat.{ℕ, _*_}
-use mathlib.Core.Bool.{true}
+use Prim.Native.Nat.{ℕ, _+_, _*_, _/_}
+use mathlib.Core.Bool.{Bool, true, _&&_}
 use mathlib.Core.List.{List}
 use mathlib.Core.Path.{_≡_, refl, sym, ap, subst, _∙_}
 use native.Mathlib.Omega.{arith}
+use lib.Dec.{leb}
 use lib.ListN.{length, take}
+use borrow.Author.Tests.{leb-true}
 use Rattle.mir.specs.declared.config.Settings.{Settings}
 use Rattle.mir.specs.declared.questions.Verdict.the-variants as verdict
-use Rattle.mir.specs.Answers.{answered, unless}
+use Rattle.mir.specs.Answers.{answered, unless, over}
+use Rattle.mir.specs.Questions.{refusal}
 use Rattle.mir.specs.Records.{records, fixedMark}
 use Rattle.mir.proofs.Passing.{not-passed, room-passes}
+use Rattle.mir.proofs.Renaming.{and-both}
 use Rattle.passes.specs.declared.alloc.Outcome.the-variants.{Kept}
 use Rattle.passes.specs.Color.{setup}
-use Rattle.passes.specs.Contract.{reduced, coloursOf, membersOf, countOf}
+use Rattle.passes.specs.Contract.{reduced, coloursOf, membersOf, wordsOf, countOf, countsOf}
 use Rattle.passes.specs.Create.{endsOf}
 use Rattle.passes.specs.Machine.{Passing, EndsEqual, run}
 use Rattle.passes.proofs.Lengths.{reduced-length}
 use Rattle.passes.proofs.Preserved.{preserved}
 use Rattle.allocator.specs.declared.Answer.the-variants.{Reduced, Refused}
-use Rattle.allocator.specs.declared.Counts.{Counts}
-use Rattle.allocator.specs.Optimize.{Lent, Optimized, roomIn, verdictOf, countsOf, report, recordsIn, over, left, wordsOf}
-use Rattle.allocator.specs.Inner.Walks.{Reduces}
-use Rattle.allocator.proofs.Over.{over-take}
+use Rattle.walks.specs.declared.Counts.{Counts}
+use Rattle.walks.specs.Lent.{Lent}
+use Rattle.allocator.specs.Optimize.{Optimized, roomFor, roomIn, verdictOf, report, recordsIn, left}
+use Rattle.walks.specs.Walks.{Roomy, Reduces}
+use Rattle.walks.proofs.Over.{over-take}
 
 module _ (s : Settings) (list table : List ℕ) where
   pub reduced-words : length (reduced s list table) ≡ countOf Kept s list table * 8
@@ -37,20 +42,44 @@ module _ (s : Settings) (list table : List ℕ) where
   pub taken : (old : List ℕ) → take (recordsIn (answered (countsOf s list table)) * 8) (over (reduced s list table) old) ≡ reduced s list table
   taken old = ap (λ n. take n (over (reduced s list table) old)) (ap (λ n. n * 8) first-count ∙ sym reduced-words) ∙ over-take (reduced s list table) old
 
+-- a list that passes, whatever the room was
+pub passing-with : (room : Bool) (s : Settings) (list table : List ℕ) → refusal room s list table ≡ verdict.Passed → Passing s list table
+unfolding Passing
+passing-with room s list table v = rw (room-passes room s list table v) at v
+
+-- question 4 answered yes
+roomy : (list table out colours ends set : ℕ) → roomFor list table out colours ends set ≡ true → Roomy list table out colours ends set
+unfolding roomFor
+roomy list table out colours ends set h =
+    let a = and-both (leb list out) (leb (list / 8 * 2) colours && (leb (list / 8 * 2) ends && leb (list / 8 * 4 + table) set)) h in
+    let b = and-both (leb (list / 8 * 2) colours) (leb (list / 8 * 2) ends && leb (list / 8 * 4 + table) set) (a .1) in
+    let c = and-both (leb (list / 8 * 2) ends) (leb (list / 8 * 4 + table) set) (b .1) in
+    record {
+      for-out = leb-true list out (a .0);
+      for-colours = leb-true (list / 8 * 2) colours (b .0);
+      for-ends = leb-true (list / 8 * 2) ends (c .0);
+      for-set = leb-true (list / 8 * 4 + table) set (c .1);
+    }
+
 module _ (s : Settings) (list table : List ℕ) (held : Lent) where
-  pub room-in : verdictOf s list table held ≡ verdict.Passed → roomIn list table held ≡ true
+  room-in : verdictOf s list table held ≡ verdict.Passed → roomIn list table held ≡ true
   unfolding verdictOf
   room-in v = room-passes (roomIn list table held) s list table v
 
+  pub enough : verdictOf s list table held ≡ verdict.Passed
+      → Roomy (length list) (length table) (length (held .out)) (length (held .colours)) (length (held .ends)) (length (held .set))
+  unfolding roomIn
+  enough v = roomy (length list) (length table) (length (held .out)) (length (held .colours)) (length (held .ends)) (length (held .set)) (room-in v)
+
   pub passing : verdictOf s list table held ≡ verdict.Passed → Passing s list table
-  unfolding verdictOf Passing
-  passing v = rw (room-in v) at v
+  unfolding verdictOf
+  passing v = passing-with (roomIn list table held) s list table v
 
 module _ {s : Settings} {list table : List ℕ} {held : Lent} where
   pub passed-promise : {now : Lent} {r : Counts} → verdictOf s list table held ≡ verdict.Passed → Reduces s list table held now r → Optimized s list table held now (Reduced r)
   passed-promise {now} {r} v w =
       record {
-        answer = w .answer ∙ sym (ap (λ u. unless u (countsOf s list table)) v);
+        answer = ap answered (w .counts) ∙ sym (ap (λ u. unless u (countsOf s list table)) v);
         out = w .out ∙ sym (ap (λ u. left u (reduced s list table) (held .out)) v);
         colours = w .colours ∙ sym (ap (λ u. left u (coloursOf s list table) (held .colours)) v);
         ends = w .ends ∙ sym (ap (λ u. left u (endsOf list) (held .ends)) v);
@@ -62,7 +91,7 @@ module _ {s : Settings} {list table : List ℕ} {held : Lent} where
       kept : take (recordsIn (report (Reduced r)) * 8) (now .out) ≡ reduced s list table
       kept =
           ap (take (recordsIn (report (Reduced r)) * 8)) (w .out)
-          ∙ (ap (λ a. take (recordsIn a * 8) (over (reduced s list table) (held .out))) (w .answer) ∙ taken s list table (held .out))
+          ∙ (ap (λ a. take (recordsIn a * 8) (over (reduced s list table) (held .out))) (ap answered (w .counts)) ∙ taken s list table (held .out))
 
   pub refused-promise : {number index : ℕ} → verdictOf s list table held ≡ verdict.Refused number index → Optimized s list table held held (Refused number index)
   refused-promise {number} {index} v =

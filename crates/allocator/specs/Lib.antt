@@ -1,3 +1,2 @@
--- Public: what `optimize` promises. Inner stands apart: what only the functions inside say.
+-- Public: what `optimize` promises.
 pub mod Optimize
-pub mod Inner

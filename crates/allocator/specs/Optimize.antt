@@ -1,39 +1,27 @@
 -- Public, document 01, sections 4, 5, 7 and 10: what `optimize` answers, and what the lent slices then hold.
 use Prim.Native.Nat.{ℕ, _+_, _*_, _/_}
 use mathlib.Core.Bool.{Bool, _&&_}
-use mathlib.Core.List.{List, [], _∷_, _++_}
+use mathlib.Core.List.{List}
 use mathlib.Core.Path.{_≡_}
 use lib.Dec.{leb}
-use lib.ListN.{length, getD, take, drop}
+use lib.ListN.{length, getD, take}
 use Rattle.mir.specs.declared.config.Settings.{Settings}
 use Rattle.mir.specs.declared.questions.Verdict.{Verdict}
 use Rattle.mir.specs.declared.questions.Verdict.the-variants as verdict
-use Rattle.mir.specs.Answers.{Report, answered, refused, unless}
+use Rattle.mir.specs.Answers.{Report, answered, refused, unless, over}
 use Rattle.mir.specs.Questions.{refusal}
-use Rattle.passes.specs.declared.alloc.Outcome.the-variants.{Kept, Nop, Load, Move, Save}
-use Rattle.passes.specs.declared.symbol.Loc.{Loc}
-use Rattle.passes.specs.Contract.{reduced, coloursOf, membersOf, countOf}
+use Rattle.passes.specs.Contract.{reduced, coloursOf, membersOf, wordsOf, countsOf}
 use Rattle.passes.specs.Create.{endsOf}
 use Rattle.passes.specs.Machine.{Meaning, State, run, AllScalar, EndsEqual}
 use Rattle.allocator.specs.declared.Answer.{Answer}
 use Rattle.allocator.specs.declared.Answer.the-variants.{Reduced, Refused}
-use Rattle.allocator.specs.declared.Counts.{Counts}
+use Rattle.walks.specs.Lent.{Lent, valuesIn}
 
 -- section 7, question 4, by the numbers of words: has the output at least the list's length, the statics (colours and
 -- ends) at least two entries per record, the set at least 4 words per record plus the table's length?
 unfoldable pub roomFor : (list table out colours ends set : ℕ) → Bool
 roomFor list table out colours ends set =
     leb list out && (leb (list / 8 * 2) colours && (leb (list / 8 * 2) ends && leb (list / 8 * 4 + table) set))
-
--- the slices that are lent to be written: the output, the statics' colours and ends, and the read set
-pub record Lent : Type 0 where
-  pub out : List ℕ
-  pub colours : List ℕ
-  pub ends : List ℕ
-  pub set : List ℕ
-
-abbrev pub lent : List ℕ → List ℕ → List ℕ → List ℕ → Lent
-lent out colours ends set = record { out = out; colours = colours; ends = ends; set = set }
 
 unfoldable pub roomIn : List ℕ → List ℕ → Lent → Bool
 roomIn list table held =
@@ -42,21 +30,6 @@ roomIn list table held =
 -- the nine questions, with these slices
 unfoldable pub verdictOf : Settings → List ℕ → List ℕ → Lent → Verdict
 verdictOf s list table held = refusal (roomIn list table held) s list table
-
--- section 4: the counts of records, statics and set members, and of dropped nops, loads, moves and saves
-unfoldable pub countsOf : Settings → List ℕ → List ℕ → List ℕ
-countsOf s list table =
-    countOf Kept s list table
-    ∷ length (coloursOf s list table)
-    ∷ length (membersOf s list table)
-    ∷ countOf Nop s list table
-    ∷ countOf Load s list table
-    ∷ countOf Move s list table
-    ∷ countOf Save s list table
-    ∷ []
-
-abbrev pub valuesIn : Counts → List ℕ
-valuesIn c = c .records ∷ c .statics ∷ c .members ∷ c .nops ∷ c .loads ∷ c .moves ∷ c .saves ∷ []
 
 abbrev pub report : Answer → Report
 report (Reduced c) = answered (valuesIn c)
@@ -67,19 +40,10 @@ abbrev pub recordsIn : Report → ℕ
 recordsIn (answered values) = getD values 0 0
 recordsIn (refused number index) = 0
 
--- a slice that starts with the words, all else being what it held
-abbrev pub over : List ℕ → List ℕ → List ℕ
-over words held = words ++ drop (length words) held
-
--- and so it does if the list passes; a refusal changes no lent word
+-- a slice starts with the words if the list passes; a refusal changes no lent word
 abbrev pub left : Verdict → List ℕ → List ℕ → List ℕ
 left verdict.Passed words held = over words held
 left (verdict.Refused number index) words held = held
-
--- locations as words, two each
-unfoldable pub wordsOf : List Loc → List ℕ
-wordsOf [] = []
-wordsOf (l ∷ ls) = l .space ∷ l .index ∷ wordsOf ls
 
 -- the promise of `optimize`, with what the lent slices held and hold
 pub record Optimized (s : Settings) (list table : List ℕ) (held now : Lent) (given : Answer) : Type 0 where

@@ -1,10 +1,10 @@
 // Standard input and output of the programs: words that are read, and what reducing a file gives, as text.
 use allocator::Answer;
-use allocator::Counts;
 use libc::STDIN_FILENO;
 use libc::STDOUT_FILENO;
 use rudzaviks::file::word_at;
 use rudzaviks::reduce::reduce_file;
+use walks::Counts;
 ghost use Prim.Native.Nat.{_*_, _+_, _≤_};
 ghost use lib.ListN.{length};
 

@@ -6,9 +6,9 @@ use mathlib.Core.List.{List}
 use mathlib.Core.Path.{_≡_, refl}
 use native.Mathlib.Omega.{arith}
 use lib.ListN.{length}
-use Rattle.allocator.specs.declared.Counts.{Counts}
-use Rattle.allocator.specs.Optimize.{countsOf, valuesIn}
-use Rattle.allocator.proofs.Promise.{reduced-words}
+use Rattle.walks.specs.declared.Counts.{Counts}
+use Rattle.walks.specs.Lent.{valuesIn}
+use Rattle.allocator.proofs.Promise.{reduced-words, passing-with}
 use Rattle.mir.specs.declared.questions.Verdict.{Verdict}
 use Rattle.mir.specs.declared.questions.Verdict.the-variants.{Passed, Refused}
 use Rattle.mir.specs.Answers.{answered, unless}
@@ -18,7 +18,7 @@ use Rattle.mir.proofs.Clash.{clash}
 use Rattle.mir.proofs.Passing.{room-passes}
 use Rattle.passes.specs.declared.alloc.Outcome.the-variants.{Kept}
 use Rattle.passes.specs.Color.{setup}
-use Rattle.passes.specs.Contract.{countOf}
+use Rattle.passes.specs.Contract.{countsOf, countOf}
 use Rattle.passes.specs.Machine.{Passing, Meaning, State, run, AllScalar, EndsEqual}
 use Rattle.passes.proofs.Lengths.{counts-add}
 use Rattle.passes.proofs.Preserved.{preserved}
@@ -49,14 +49,13 @@ pub record Accepted (room : Bool) (file : List ℕ) : Type 0 where
   pub passing : Passing (settingsIn file) (listIn file) (tableIn file)
 
 pub accepted : {room : Bool} {file : List ℕ} → fileVerdict room file ≡ Passed → Accepted room file
-unfolding fileVerdict Passing
+unfolding fileVerdict
 accepted {room} {file} v = go (wellFormed file) refl v
   where
     go : (b : Bool) → wellFormed file ≡ b → cond b (refusal room (settingsIn file) (listIn file) (tableIn file)) (Refused 3 0) ≡ Passed → Accepted room file
     go false w q = clash (cc)
     go true w q =
-        let r = room-passes room (settingsIn file) (listIn file) (tableIn file) q in
-        record { room-is = r; well = w; passing = rw r at q }
+        record { room-is = room-passes room _ _ _ q; well = w; passing = passing-with room _ _ _ q }
 
 -- the number of records that are kept
 abbrev pub kept : List ℕ → ℕ

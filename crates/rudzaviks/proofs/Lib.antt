@@ -1,4 +1,5 @@
 -- The laws that the functions' proofs cite. Those that serve one file of src/ stand in the folder of its name.
+pub mod Cases
 pub mod FileVerdict
 pub mod Optimize
 pub mod ReduceBytes

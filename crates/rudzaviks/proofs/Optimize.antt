@@ -7,11 +7,13 @@ use mathlib.Core.Path.{_≡_, refl, sym}
 use lib.ListN.{length}
 use borrow.Author.Tests.{le-leb, lt-leb}
 use Rattle.allocator.specs.declared.Answer.{Answer}
-use Rattle.allocator.specs.Optimize.{Lent, Optimized, roomIn, verdictOf, countsOf, report, recordsIn, over, left}
+use Rattle.walks.specs.Lent.{Lent}
+use Rattle.allocator.specs.Optimize.{Optimized, roomIn, verdictOf, report, recordsIn, left}
+use Rattle.passes.specs.Contract.{countsOf}
 use Rattle.mir.specs.declared.config.Settings.{Settings}
 use Rattle.mir.specs.declared.questions.Verdict.{Verdict}
 use Rattle.mir.specs.declared.questions.Verdict.the-variants.{Passed, Refused}
-use Rattle.mir.specs.Answers.{Report, answered, refused, unless}
+use Rattle.mir.specs.Answers.{over, Report, answered, refused, unless}
 use Rattle.mir.specs.Questions.{refusal}
 use Rattle.mir.proofs.Clash.{clash}
 use Rattle.mir.proofs.Passing.{room-passes}

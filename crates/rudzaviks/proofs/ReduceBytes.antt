@@ -8,12 +8,14 @@ use native.Mathlib.Omega.{arith}
 use lib.Dec.{leb}
 use lib.ListN.{length, take, drop}
 use borrow.Author.Tests.{leb-true}
-use Rattle.allocator.specs.declared.Counts.{Counts}
-use Rattle.allocator.specs.Optimize.{countsOf, over, left, valuesIn}
-use Rattle.allocator.proofs.Over.{over-take}
+use Rattle.walks.specs.declared.Counts.{Counts}
+use Rattle.passes.specs.Contract.{countsOf}
+use Rattle.allocator.specs.Optimize.{left}
+use Rattle.walks.specs.Lent.{valuesIn}
+use Rattle.walks.proofs.Over.{over-take}
 use Rattle.mir.specs.declared.questions.Verdict.{Verdict}
 use Rattle.mir.specs.declared.questions.Verdict.the-variants.{Passed, Refused}
-use Rattle.mir.specs.Answers.{answered, refused, unless}
+use Rattle.mir.specs.Answers.{over, answered, refused, unless}
 use Rattle.mir.proofs.Clash.{clash}
 use Rattle.rudzaviks.specs.declared.file.Layout.the-variants.{Bad}
 use Rattle.rudzaviks.specs.Exports.{refusalWord, reportWord, recordsWord}

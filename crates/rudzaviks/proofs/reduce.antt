@@ -1,3 +1,2 @@
 -- A file reduced, src/reduce.rt.
 pub mod Promise
-pub mod WorkingSpace

@@ -6,13 +6,14 @@ use mathlib.Core.List.{List}
 use mathlib.Core.Path.{_≡_}
 use lib.Dec.{eqb, leb}
 use lib.ListN.{getD, length, take}
-use Rattle.allocator.specs.Optimize.{Lent, roomIn, countsOf, left, wordsOf}
+use Rattle.walks.specs.Lent.{Lent}
+use Rattle.allocator.specs.Optimize.{roomIn, left}
 use Rattle.mir.specs.declared.config.Settings.{Settings}
 use Rattle.mir.specs.declared.questions.Verdict.{Verdict}
 use Rattle.mir.specs.declared.questions.Verdict.the-variants.{Passed}
 use Rattle.mir.specs.Answers.{Report, answered, refused, unless}
 use Rattle.mir.specs.Questions.{refusal}
-use Rattle.passes.specs.Contract.{reduced, coloursOf, membersOf}
+use Rattle.passes.specs.Contract.{countsOf, wordsOf, reduced, coloursOf, membersOf}
 use Rattle.passes.specs.Create.{endsOf}
 use Rattle.passes.specs.Machine.{Meaning, State, run, AllScalar, EndsEqual}
 

@@ -6,14 +6,14 @@ use mathlib.Core.Path.{_≡_}
 use lib.Dec.{eqb, leb}
 use lib.ListN.{length, getD, take}
 use Rattle.allocator.specs.declared.Answer.{Answer}
-use Rattle.allocator.specs.Optimize.{countsOf, report, recordsIn, left}
+use Rattle.allocator.specs.Optimize.{report, recordsIn, left}
 use Rattle.mir.specs.declared.config.Settings.{Settings}
 use Rattle.mir.specs.declared.questions.Verdict.{Verdict}
 use Rattle.mir.specs.declared.questions.Verdict.the-variants.{Passed, Refused}
 use Rattle.mir.specs.Answers.{unless}
 use Rattle.mir.specs.Questions.{refusal}
 use Rattle.passes.specs.declared.alloc.Outcome.the-variants.{Kept}
-use Rattle.passes.specs.Contract.{reduced, countOf}
+use Rattle.passes.specs.Contract.{countsOf, reduced, countOf}
 use Rattle.passes.specs.Machine.{Meaning, State, run, AllScalar, EndsEqual}
 use Rattle.rudzaviks.specs.declared.file.Layout.{Layout}
 use Rattle.rudzaviks.specs.declared.file.Layout.the-variants.{Counts, Bad}

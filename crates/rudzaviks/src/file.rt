@@ -4,7 +4,7 @@ ghost use mathlib.Core.List.{_∷_};
 ghost use mathlib.Core.Path.{_≡_};
 ghost use lib.ListN.{length};
 ghost use lib.Seq.{sets};
-ghost use Rattle.allocator.specs.Optimize.{over};
+ghost use Rattle.mir.specs.Answers.{over};
 ghost use Rattle.rudzaviks.specs.File.{wordIn, wordsIn, bytesOfWord, bytesOf, layoutOf};
 
 // Word `k` of the bytes.

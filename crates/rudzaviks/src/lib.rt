@@ -6,25 +6,25 @@ ghost use Prim.Native.Nat.{_≤_};
 ghost use mathlib.Core.List.{[]};
 ghost use mathlib.Core.Path.{_≡_};
 ghost use lib.ListN.{length};
-ghost use Rattle.allocator.specs.Optimize.{lent, over, valuesIn};
+ghost use Rattle.walks.specs.Lent.{lent, valuesIn};
 ghost use Rattle.rudzaviks.specs.Exports.{RudzaviksOptimize, flag, settingsOf, refusalWord, reportWord, usedWord, placeWord, recordsWord};
 ghost use Rattle.rudzaviks.specs.declared.file.Layout.the-variants as layout;
 ghost use Rattle.rudzaviks.specs.Inner.{FewUsed};
 ghost use Rattle.rudzaviks.specs.File.{RudzaviksReduce, layoutOf};
-ghost use Rattle.mir.specs.Answers.{unless};
+ghost use Rattle.mir.specs.Answers.{over, unless};
 ghost use Rattle.mir.specs.Beside.{usedRegisters, usedReport, populateLabels, placeReport};
 use crate::file::Layout;
 use crate::file::layout_of;
 use crate::file::write_words;
 use crate::reduce::reduce_sections;
 use allocator::Answer;
-use allocator::Counts;
 use allocator::optimize;
 use mir::Place;
 use mir::Used;
 use mir::config::Settings;
 use mir::questions::Verdict;
 use mir::questions::check;
+use walks::Counts;
 
 // A refusal: the question's number above bit 32, the record's index below it.
 fn refusal_word(number: u32, index: u32) -> u64

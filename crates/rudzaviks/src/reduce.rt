@@ -1,26 +1,27 @@
-// A file reduced: the sections are read into working space, and `optimize` does the rest.
+// A file reduced: the sections are read into working space, questioned and reduced.
 use crate::file::Layout;
 use crate::file::layout_of;
 use crate::file::read_words;
 use crate::file::word_at;
 use crate::settings_of;
 use allocator::Answer;
-use allocator::optimize;
 use mir::config::Settings;
 use mir::questions::Verdict;
 use mir::questions::check;
+use walks::Counts;
+use walks::reduce;
 ghost use Prim.Native.Nat.{_+_, _*_, _≤_};
 ghost use mathlib.Core.Bool.{true};
-ghost use mathlib.Core.List.{[]};
 ghost use mathlib.Core.Path.{_≡_};
 ghost use lib.ListN.{length};
-ghost use Rattle.allocator.specs.Optimize.{countsOf, report, left};
-ghost use Rattle.rudzaviks.specs.declared.file.Layout.the-variants.{Counts};
-ghost use Rattle.rudzaviks.specs.File.{FileReduced, settingsIn, fileCounts, fileReduced, fileVerdict, layoutOf};
-ghost use Rattle.mir.specs.declared.questions.Verdict.the-variants.{Passed};
-ghost use Rattle.mir.specs.Answers.{unless};
+ghost use Rattle.mir.specs.Answers.{unless, over};
 ghost use Rattle.mir.specs.Questions.{refusal};
-ghost use Rattle.passes.specs.Contract.{reduced};
+ghost use Rattle.passes.specs.Contract.{reduced, countsOf};
+ghost use Rattle.passes.specs.Machine.{Passing};
+ghost use Rattle.walks.specs.Lent.{valuesIn};
+ghost use Rattle.allocator.specs.Optimize.{report, left};
+ghost use Rattle.rudzaviks.specs.declared.file.Layout.the-variants as layout;
+ghost use Rattle.rudzaviks.specs.File.{FileReduced, settingsIn, fileCounts, fileReduced, fileVerdict, layoutOf};
 
 // The most words that a file's list and table have, and the working space for them.
 const LIST: usize = 4096;
@@ -31,18 +32,30 @@ const STATICS: usize = 1024;
 
 const SET: usize = 3072;
 
-// A refusal as an answer; a verdict that passed is none.
-fn refused(verdict: Verdict) -> Answer
-    requires { ⌜ (verdict ≡ Passed → ⊥) ⌝ }
-    ensures { λ r. ⌜ report r ≡ unless verdict [] ⌝ }
+// A list of a file's size that passes, reduced with working space for its statics and its read set.
+fn reduce_in_space(list: &[u32], table: &[u32], settings: Settings, out: &mut [u32]) -> Counts
+    requires { ⌜ length (now list) ≤ 4096 ⌝ }
+    requires { ⌜ length (now table) ≤ 1024 ⌝ }
+    requires { ⌜ length (now list) ≤ length (now out) ⌝ }
+    requires { ⌜ Passing settings (now list) (now table) ⌝ }
+    ensures counts { λ r. ⌜ valuesIn r ≡ countsOf settings (now (list .entry)) (now (table .entry)) ⌝ }
+    ensures out { λ _. ⌜ now (out .exit) ≡ over (reduced settings (now (list .entry)) (now (table .entry))) (now (out .entry)) ⌝ }
 {
-    match verdict {
-        Verdict::Passed => Answer::Refused(0, 0),
-        Verdict::Refused(number, index) => Answer::Refused(number, index),
-    }
+    let mut colours = [0u32; STATICS];
+    let mut ends = [0u32; STATICS];
+    let mut set = [0u32; SET];
+    reduce(
+        list,
+        table,
+        settings,
+        out,
+        &mut colours,
+        &mut ends,
+        &mut set,
+    )
 }
 
-// A list of a file's size reduced; `room` says whether what it goes to has room for it.
+// A list of a file's size questioned and reduced; `room` says whether what it goes to has room for it.
 fn reduce_list(
     list: &[u32],
     table: &[u32],
@@ -56,21 +69,10 @@ fn reduce_list(
     ensures answer { λ r. ⌜ report r ≡ unless (refusal room settings (now (list .entry)) (now (table .entry))) (countsOf settings (now (list .entry)) (now (table .entry))) ⌝ }
     ensures out { λ _. ⌜ now (out .exit) ≡ left (refusal room settings (now (list .entry)) (now (table .entry))) (reduced settings (now (list .entry)) (now (table .entry))) (now (out .entry)) ⌝ }
 {
-    if !room {
-        return refused(check(list, table, settings, false));
+    match check(list, table, settings, room) {
+        Verdict::Passed => Answer::Reduced(reduce_in_space(list, table, settings, out)),
+        Verdict::Refused(number, index) => Answer::Refused(number, index),
     }
-    let mut colours = [0u32; STATICS];
-    let mut ends = [0u32; STATICS];
-    let mut set = [0u32; SET];
-    optimize(
-        list,
-        table,
-        settings,
-        out,
-        &mut colours,
-        &mut ends,
-        &mut set,
-    )
 }
 
 fn settings_at(file: &[u8]) -> Settings
@@ -94,7 +96,7 @@ pub fn reduce_sections(
     room: bool,
     out: &mut [u32],
 ) -> Answer
-    requires { ⌜ layoutOf (now file) ≡ Counts pairs records ⌝ }
+    requires { ⌜ layoutOf (now file) ≡ layout.Counts pairs records ⌝ }
     requires { ⌜ (room ≡ true → records * 8 ≤ length (now out)) ⌝ }
     ensures answer { λ r. ⌜ report r ≡ unless (fileVerdict room (now (file .entry))) (fileCounts (now (file .entry))) ⌝ }
     ensures out { λ _. ⌜ now (out .exit) ≡ left (fileVerdict room (now (file .entry))) (fileReduced (now (file .entry))) (now (out .entry)) ⌝ }

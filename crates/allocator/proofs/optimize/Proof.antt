@@ -3,8 +3,9 @@
 use mathlib.Core.Path.{_≡_, sym, ap, _∙_}
 use borrow.Author.Needs.{needs}
 use Rattle.mir.specs.Questions.{refusal}
-use Rattle.allocator.specs.Optimize.{Lent, lent, roomIn, verdictOf}
-use Rattle.allocator.proofs.Promise.{room-in, passing, passed-promise, refused-promise}
+use Rattle.walks.specs.Lent.{Lent, lent}
+use Rattle.allocator.specs.Optimize.{roomIn, verdictOf}
+use Rattle.allocator.proofs.Promise.{enough, passing, passed-promise, refused-promise}
 use Rattle.allocator.proofs.optimize.Statement.{statement}
 use Rattle.allocator.proofs.optimize.Tie as tie
 
@@ -22,13 +23,12 @@ verdict-is k =
     k .check .ensures ∙ ap (λ b. refusal b (a .args .settings) (a .args .list .now) (a .args .table .now)) (k .before .has-room .ensures)
 
 reduce-requires : tie.Need-reduce-requires
-unfolding roomIn
 reduce-requires c κs =
     let told = c .before .before .before .before in
     let a = start (told .before .before) in
     let v = sym (verdict-is (told .before .before)) ∙ told .enum-told .given .1 in (
       passing (a .args .settings) (a .args .list .now) (a .args .table .now) (held a) v,
-      room-in (a .args .settings) (a .args .list .now) (a .args .table .now) (held a) v,
+      enough (a .args .settings) (a .args .list .now) (a .args .table .now) (held a) v,
     )
 
 returns : tie.Need-returns

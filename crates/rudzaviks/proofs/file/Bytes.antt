@@ -8,8 +8,8 @@ use native.Mathlib.Numerals.{add-one}
 use native.Mathlib.Omega.{arith}
 use lib.ListN.{length, getD, set, take, drop, length-append}
 use lib.Seq.{sets, sets-eq, length-take-le, take-suc, take-at, take-append-seam, drop-append-add, drop-drop, getD-append-seam, getD-append-add}
-use Rattle.allocator.specs.Optimize.{over}
-use Rattle.allocator.proofs.Over.{over-length, over-next, over-over}
+use Rattle.mir.specs.Answers.{over}
+use Rattle.walks.proofs.Over.{over-length, over-next, over-over}
 use Rattle.rudzaviks.specs.File.{wordIn, wordsIn, bytesOfWord, bytesOf}
 
 -- ---- reading

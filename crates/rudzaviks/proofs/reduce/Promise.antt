@@ -8,9 +8,10 @@ use lib.Dec.{leb}
 use lib.ListN.{length}
 use Rattle.allocator.specs.declared.Answer.{Answer}
 use Rattle.allocator.specs.declared.Answer.the-variants.{Reduced, Refused}
-use Rattle.allocator.specs.declared.Counts.{Counts}
-use Rattle.allocator.specs.Optimize.{countsOf, report, left}
-use Rattle.allocator.proofs.Over.{over-take}
+use Rattle.walks.specs.declared.Counts.{Counts}
+use Rattle.passes.specs.Contract.{countsOf}
+use Rattle.allocator.specs.Optimize.{report, left}
+use Rattle.walks.proofs.Over.{over-take}
 use Rattle.mir.specs.Answers.{unless}
 use Rattle.rudzaviks.specs.declared.file.Layout.the-variants.{Bad}
 use Rattle.rudzaviks.specs.File.{FileReduced, recordCount, layoutOf, fileCounts, fileReduced, wordsVerdict}

@@ -5,7 +5,8 @@ use mathlib.Core.Path.{refl}
 use lib.ListN.{length}
 use borrow.Author.Needs.{needs}
 use Rattle.mir.specs.declared.config.Settings.{Settings}
-use Rattle.allocator.specs.Optimize.{Lent, lent, Optimized}
+use Rattle.walks.specs.Lent.{Lent, lent}
+use Rattle.allocator.specs.Optimize.{Optimized}
 use Rattle.rudzaviks.specs.Exports.{settingsOf}
 use Rattle.rudzaviks.proofs.Optimize.{entry-answered, entry-short}
 use Rattle.rudzaviks.proofs.rudzaviks_optimize.Statement.{statement}

@@ -3,7 +3,7 @@
 use native.Mathlib.Omega.{arith}
 use lib.ListN.{length-set}
 use lib.Seq.{sets-eq}
-use Rattle.allocator.specs.Optimize.{valuesIn}
+use Rattle.walks.specs.Lent.{valuesIn}
 use borrow.Author.Needs.{needs}
 use Rattle.rudzaviks.proofs.write_counts.Statement.{statement}
 use Rattle.rudzaviks.proofs.write_counts.Tie as tie

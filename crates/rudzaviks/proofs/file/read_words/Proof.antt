@@ -4,8 +4,8 @@ use Prim.Native.Nat.{_-_, _≤_}
 use mathlib.Core.Path.{_≡_, refl, ap, _∙_}
 use native.Mathlib.Omega.{arith}
 use lib.ListN.{length}
-use Rattle.allocator.specs.Optimize.{over}
-use Rattle.allocator.proofs.Over.{over-length}
+use Rattle.mir.specs.Answers.{over}
+use Rattle.walks.proofs.Over.{over-length}
 use Rattle.rudzaviks.specs.File.{wordsIn}
 use Rattle.rudzaviks.proofs.file.Bytes.{words-length, words-next}
 use borrow.Author.Needs.{needs}

@@ -6,8 +6,8 @@ use mathlib.Core.List.{_∷_}
 use native.Mathlib.Omega.{arith}
 use lib.Seq.{take-all}
 use lib.ListN.{length, take}
-use Rattle.allocator.specs.Optimize.{over}
-use Rattle.allocator.proofs.Over.{over-length}
+use Rattle.mir.specs.Answers.{over}
+use Rattle.walks.proofs.Over.{over-length}
 use Rattle.rudzaviks.specs.File.{bytesOf}
 use Rattle.rudzaviks.proofs.file.Bytes.{taken-length, bytes-next, over-first, first-over}
 use borrow.Author.Needs.{needs}

@@ -1,34 +1,47 @@
--- `rudzaviks::reduce::reduce_list` meets its contract: without room the verdict is a refusal, and with it `optimize` finds room.
--- The working space is long enough for a list of 4,096 words and a table of 1,024.
-use mathlib.Core.Path.{sym, _∙_}
+-- `rudzaviks::reduce::reduce_list` meets its contract: a list that passes is reduced, and any other changes nothing.
+-- A list passes only with room, so the output is long enough.
+use mathlib.Core.Path.{_≡_, sym, ap, _∙_}
 use borrow.Author.Needs.{needs}
-use borrow.Author.Tests.{not-true, not-false}
-use Rattle.rudzaviks.proofs.reduce.WorkingSpace.{no-room-refuses, no-room, working-room, by-room}
+use Rattle.mir.specs.declared.questions.Verdict.{Verdict}
+use Rattle.mir.specs.Answers.{answered}
+use Rattle.mir.specs.Questions.{refusal}
+use Rattle.mir.proofs.Passing.{room-passes}
+use Rattle.allocator.proofs.Promise.{passing-with}
 use Rattle.rudzaviks.proofs.reduce.reduce_list.Statement.{statement}
 use Rattle.rudzaviks.proofs.reduce.reduce_list.Tie as tie
 
-refused-requires : tie.Need-refused-requires
-refused-requires c κs = λ p. no-room-refuses _ _ _ (sym (c .check .ensures) ∙ p)
+-- where the verdict is given: where the call began, and what the verdict is
+abbrev start : tie.After-check → tie.Start
+start k = k .before .before .before .before
+
+verdict-is : (k : tie.After-check) {v : Verdict} → k .check .result ≡ v
+    → refusal (start k .args .room) (start k .args .settings) (start k .args .list .now) (start k .args .table .now) ≡ v
+verdict-is k e = sym (k .check .ensures) ∙ e
+
+reduce-in-space-requires : tie.Need-reduce-in-space-requires
+reduce-in-space-requires c κs =
+    let a = start (c .before .before .before) in
+    let v = verdict-is (c .before .before .before) (c .before .enum-told .given .1) in
+    (a .pre .0, (a .pre .1 .0, (a .pre .1 .1 (room-passes _ _ _ _ v), passing-with _ _ _ _ v)))
 
 returns : tie.Need-returns
 returns c =
-    let k = c .before in
-    rw (c .refused .ensures) (no-room _ _ _ (k .check .result) (k .check .ensures) (not-true _ (k .before .if1 .taken)))
+    let told = c .before .before .before .before in
+    let v = verdict-is (told .before .before) (told .enum-told .given .1) in
+    let e = c .before .before .reduce-in-space .ensures in
+    (rw v (ap answered (e .0)), rw v (e .1))
 
 returns-2 : tie.Need-returns-2
 returns-2 c =
-    let o = c .before .before .before .before .before in
-    let e = o .before .before .before .before .before in
-    let a = e .before .before .before .before in
-    let b = not-false (a .args .room) (e .if1 .left) in
-    by-room (o .optimize .ensures) (working-room _ _ _ (a .pre .0) (a .pre .1 .0) (a .pre .1 .1 b) ∙ sym b)
+    let v = verdict-is (c .before .before .before) (c .before .number .given .1) in
+    (rw v, rw v)
 
 pub reduce-list-spec : {M : Type 1} → statement M
 reduce-list-spec =
     tie.close
     (tie.spec
-    (λ c κs. search needs)
-    refused-requires
+    (λ c κs. search needs) (λ c. search needs)
+    reduce-in-space-requires
+    (λ c. search needs) (λ c. search needs)
     returns
-    (λ c. search needs) (λ c. search needs) (λ c. search needs) (λ c κs. search needs) (λ c. search needs)
     returns-2)

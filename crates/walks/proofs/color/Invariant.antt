@@ -1,0 +1,146 @@
+-- The third walk: what its loop keeps, what a record may be asked for, and that the record takes it to the next.
+-- The lent slices are those of the definitions at i; `Stepped` takes them on, and the members grow by what the record reads.
+use Prim.Native.Nat.{ℕ, suc, _+_, _*_, _/_, _<_, _≤_}
+use mathlib.Core.Bool.{Bool, true}
+use mathlib.Core.List.{List}
+use mathlib.Core.Path.{_≡_, refl, ap, _∙_}
+use native.Mathlib.Numerals.{add-one}
+use native.Mathlib.Omega.{arith}
+use lib.ListN.{length, getD}
+use Rattle.mir.specs.declared.config.Settings.{Settings}
+use Rattle.mir.specs.declared.rename.Current.{Current}
+use Rattle.mir.specs.Questions.{fieldsFit, gensFit, partnerFits}
+use Rattle.mir.specs.Records.{maxRegs, records, recordAt}
+use Rattle.mir.specs.Renaming.{staticsTo}
+use Rattle.mir.specs.Shapes.{dests}
+use Rattle.mir.proofs.Passing.{ListPasses, gens-fit-more}
+use Rattle.mir.proofs.Renaming.{statics-two}
+use Rattle.passes.specs.Color.{Setup, pairsFrom, joined, foundAt, colorTo}
+use Rattle.passes.specs.Create.{endsOf}
+use Rattle.passes.specs.Machine.{Passing}
+use Rattle.passes.proofs.ReadSet.{readsAt, members-next}
+use Rattle.passes.proofs.Members.{few-members}
+use Rattle.passes.proofs.NeverEmpty.{ready-to}
+use Rattle.mir.specs.Answers.{over}
+use Rattle.passes.specs.Contract.{wordsOf}
+use Rattle.walks.specs.Walks.{Known, Slices, slices, Ready, sourceWords, wantedBy, recordStep, wasFound, readsOf, foundsTo, marked}
+use Rattle.walks.proofs.color.Dests.{marked-length}
+use Rattle.walks.proofs.Over.{over-length}
+use Rattle.walks.proofs.locs.Pairs.{SetHolds, set-pairs, set-length, set-within, set-grows, joined-grows}
+use Rattle.walks.proofs.color.Record.{all-statics, sources-fit, record-ready, record-step, found-after}
+use Rattle.walks.proofs.Registers.{Walked, passing-list, walked-known}
+
+-- a list's setup, by the number of its colours
+abbrev pub counted : ℕ → List ℕ → List ℕ → Setup
+counted n list table = record { count = n; ends = endsOf list; table = table; list = list }
+
+-- the lent slices before record i
+abbrev pub slicesAt : ℕ → List ℕ → List ℕ → List ℕ → List ℕ → ℕ → Slices
+slicesAt n list table C0 E0 i =
+    slices (colorTo (counted n list table) i .allocs) (over (colorTo (counted n list table) i .colours) C0) (over (marked (foundsTo (counted n list table) i) (endsOf list)) E0)
+
+pub record Colouring (n : ℕ) (list table C0 E0 S0 : List ℕ) (i : ℕ) (σ : Slices) (words : List ℕ) (members : ℕ) (regs : List Current) (statics : ℕ) : Type 0 where
+  pub walked : Walked list i regs statics
+  pub slices-are : σ ≡ slicesAt n list table C0 E0 i
+  pub set-holds : SetHolds S0 words members (colorTo (counted n list table) i .members)
+
+module _ (s : Settings) (list table : List ℕ) (h : Passing s list table) (C0 E0 S0 : List ℕ)
+    (colours-room : records list * 2 ≤ length C0) (ends-room : records list * 2 ≤ length E0) (set-room : records list * 4 + length table ≤ length S0) where
+  abbrev n : ℕ
+  n = s .«count_regs»
+
+  pub passes : ListPasses s list table
+  passes = passing-list s list table h
+
+  pub wide : length (endsOf list) ≤ length C0
+  wide = omega (arith, ends-all, statics-two list (records list), colours-room)
+    where
+      ends-all : length (endsOf list) ≡ staticsTo list (records list)
+      ends-all = all-statics s list table passes (endsOf list) (endsOf list) (omega arith)
+
+  pub ends-fit : length (endsOf list) ≤ length E0
+  ends-fit = omega (arith, all-statics s list table passes C0 E0 wide, statics-two list (records list), ends-room)
+
+  module _ {i : ℕ} {σ : Slices} {words : List ℕ} {members : ℕ} {regs : List Current} {statics : ℕ} (inv : Colouring (s .«count_regs») list table C0 E0 S0 i σ words members regs statics) (le : i ≤ records list) where
+    pub colours-same : length (σ .colours) ≡ length C0
+    colours-same =
+        ap (λ (τ : Slices). length (τ .colours)) (inv .slices-are)
+        ∙ over-length (colorTo (counted n list table) i .colours) C0 (rw (ready-to s list table passes i le .next) (omega (arith, statics-two list i, colours-room)))
+
+    pub ends-same : length (σ .ends) ≡ length E0
+    ends-same =
+        ap (λ (τ : Slices). length (τ .ends)) (inv .slices-are)
+        ∙ over-length (marked (foundsTo (counted n list table) i) (endsOf list)) E0 (rw (marked-length (foundsTo (counted n list table) i) (endsOf list)) ends-fit)
+
+  module _ {i : ℕ} {σ : Slices} {words : List ℕ} {members : ℕ} {regs : List Current} {statics : ℕ} (inv : Colouring (s .«count_regs») list table C0 E0 S0 i σ words members regs statics) (l : i < length list / 8)
+      {rec : List ℕ} (e : rec ≡ recordAt list i) where
+    record-gens : gensFit maxRegs rec ≡ true
+    record-gens = rw e (gens-fit-more n maxRegs (recordAt list i) (passes .few) (passes .each i l .shape .gens))
+
+    first-fits : (m : ℕ) → records list * 2 ≤ m → statics + 2 ≤ m
+    first-fits m q = omega (arith, inv .walked .statics-are, statics-two list i, q)
+
+    -- what colouring the record asks for
+    pub color-asks : (gensFit maxRegs rec ≡ true) × ((partnerFits rec ≡ true) × (Known regs (length (σ .colours))
+        × (((j : ℕ) → getD (sourceWords regs (σ .colours) rec) j 0 < 256 → getD (sourceWords regs (σ .colours) rec) j 0 < maxRegs)
+        × ((n ≤ maxRegs) × ((statics + 2 ≤ length (σ .colours)) × ((statics + 2 ≤ length (σ .ends)) × Ready n i statics (wantedBy regs rec σ) σ))))))
+    color-asks =
+        let le : i ≤ records list = omega arith in
+        let c = colours-same inv le in
+        let d = ends-same inv le in (
+          record-gens,
+          (
+            rw e (passes .each i l .partner),
+            (
+              walked-known (inv .walked) (omega (arith, c, first-fits (length C0) colours-room)),
+              (
+                rw (inv .slices-are, inv .walked .regs-are, e) (sources-fit s list table passes C0 E0 wide i l),
+                (
+                  passes .few,
+                  (
+                    rw c (first-fits (length C0) colours-room),
+                    (
+                      rw d (first-fits (length E0) ends-room),
+                      rw (inv .slices-are, inv .walked .regs-are, inv .walked .statics-are, e) (record-ready s list table passes C0 E0 wide i l),
+                    ),
+                  ),
+                ),
+              ),
+            ),
+          ),
+        )
+
+    pub color-gives : recordStep n i statics regs rec σ ≡ slicesAt n list table C0 E0 (i + 1)
+    color-gives = rw (inv .slices-are, inv .walked .regs-are, inv .walked .statics-are, e) (record-step s list table passes C0 E0 wide i l)
+
+    pub found-gives : {ends : List ℕ} → ends ≡ slicesAt n list table C0 E0 (i + 1) .ends → wasFound (dests rec) statics ends ≡ foundAt (counted n list table) i (colorTo (counted n list table) i)
+    found-gives q = rw (q, inv .walked .statics-are, e) (found-after s list table passes C0 E0 wide i l)
+
+    module _ {found : Bool} (f : found ≡ foundAt (counted n list table) i (colorTo (counted n list table) i)) where
+      -- what the record reads, in the definitions' words
+      pub reads-are : joined (pairsFrom words 0 members) (readsOf table rec found) ≡ colorTo (counted n list table) (i + 1) .members
+      unfolding readsAt
+      reads-are = rw (add-one i, members-next (counted n list table) i, set-pairs (inv .set-holds), f, e) refl
+
+      members-fit : length (colorTo (counted n list table) (i + 1) .members) * 2 ≤ length S0
+      members-fit = rw (add-one i) (omega (arith, few-members s list table passes (suc i) (omega arith), set-room))
+
+      pub read-asks : (fieldsFit table rec ≡ true) × ((partnerFits rec ≡ true) × ((members * 2 ≤ length words) × (length (joined (pairsFrom words 0 members) (readsOf table rec found)) * 2 ≤ length words)))
+      read-asks = (
+        rw e (passes .each i l .shape .fields),
+        (
+          rw e (passes .each i l .partner),
+          (
+            set-within (inv .set-holds),
+            rw (reads-are, set-length (inv .set-holds)) members-fit,
+          ),
+        ),
+      )
+
+      pub read-gives : {words' : List ℕ} {members' : ℕ} → members' ≡ length (joined (pairsFrom words 0 members) (readsOf table rec found))
+          → words' ≡ over (wordsOf (joined (pairsFrom words 0 members) (readsOf table rec found))) words
+          → SetHolds S0 words' members' (colorTo (counted n list table) (i + 1) .members)
+      read-gives p q =
+          set-grows (inv .set-holds) (colorTo (counted n list table) (i + 1) .members)
+          (rw (← reads-are, set-pairs (inv .set-holds)) (joined-grows (colorTo (counted n list table) i .members) (readsOf table rec found))) members-fit
+          (q ∙ ap (λ ks. over (wordsOf ks) words) reads-are) (p ∙ ap length reads-are)

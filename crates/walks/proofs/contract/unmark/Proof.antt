@@ -1,0 +1,77 @@
+-- `walks::contract::unmark` meets its contract: x is unmarked before y.
+use mathlib.Core.Path.{sym, ap, _∙_}
+use native.Mathlib.Omega.{arith}
+use Rattle.walks.specs.Walks.{unmarked}
+use Rattle.mir.specs.Inner.{listed}
+use Rattle.mir.proofs.Renaming.{one-le}
+use borrow.Author.Needs.{needs}
+use Rattle.walks.proofs.contract.unmark.Statement.{statement}
+use Rattle.walks.proofs.contract.unmark.Tie as tie
+
+dests-of-requires : tie.Need-dests-of-requires
+dests-of-requires c κs = search needs
+
+enum-told : tie.Need-enum-told
+enum-told c = search needs
+
+returns : tie.Need-returns
+unfolding unmarked
+returns c = rw (sym (c .before .before .dests-of .ensures) ∙ ap listed (c .enum-told .given .1))
+
+enum-known-x : tie.Need-enum-known-x
+enum-known-x c = search needs
+
+unmark-static-requires : tie.Need-unmark-static-requires
+unmark-static-requires c κs = search needs
+
+enum-known-x-2 : tie.Need-enum-known-x-2
+enum-known-x-2 c = search needs
+
+unmark-static-requires-2 : tie.Need-unmark-static-requires-2
+unmark-static-requires-2 c κs = search needs
+
+count-static-requires : tie.Need-count-static-requires
+count-static-requires c κs = search needs
+
+cast-after : tie.Need-cast-after
+cast-after c = search needs
+
+add-after : tie.Need-add-after
+add-after c = search needs
+
+unmark-static-requires-3 : tie.Need-unmark-static-requires-3
+unmark-static-requires-3 c κs = omega (arith, one-le (c .before .before .before .before .before .before .before .x2 .given .0 .0), c .before .count-static .ensures, c .before .before .before .before .unmark-static2 .kept .1 .1 .0, c .before .before .before .before .before .before .before .before .before .before .before .pre)
+
+same-length : tie.Need-same-length
+same-length c = search needs
+
+returns-2 : tie.Need-returns-2
+unfolding unmarked
+returns-2 c = rw (sym (c .before .before .before .before .before .before .before .dests-of .ensures) ∙ ap listed (c .before .before .before .before .before .x .given .1)) (c .before .before .unmark-static .ensures)
+
+same-length-2 : tie.Need-same-length-2
+same-length-2 c = search needs
+
+returns-3 : tie.Need-returns-3
+unfolding unmarked
+returns-3 c = rw (sym (c .before .before .before .before .before .before .before .before .before .before .before .before .dests-of .ensures) ∙ ap listed (c .before .before .before .before .before .before .before .before .before .before .x2 .given .1), ← (c .before .before .before .before .before .before .before .unmark-static2 .ensures), ← (c .before .before .before .before .count-static .ensures)) (c .before .before .unmark-static3 .ensures)
+
+pub unmark-spec : {M : Type 1} → statement M
+unmark-spec =
+    tie.close
+    (tie.spec
+    dests-of-requires
+    enum-told
+    returns
+    enum-known-x
+    unmark-static-requires
+    enum-known-x-2
+    unmark-static-requires-2
+    count-static-requires
+    cast-after
+    add-after
+    unmark-static-requires-3
+    same-length
+    returns-2
+    same-length-2
+    returns-3)
