@@ -10,6 +10,12 @@ use rudzaviks::{file, text};
 
 const SAMPLE: &str = concat!(env!("CARGO_MANIFEST_DIR"), "/samples/volume.txt");
 
+/// Two lists that are reduced as the original does it, and then compute something else.
+const NOT_PROMISED: [&str; 2] = [
+    concat!(env!("CARGO_MANIFEST_DIR"), "/samples/branch.txt"),
+    concat!(env!("CARGO_MANIFEST_DIR"), "/samples/two_part.txt"),
+];
+
 /// What a run of the tool gave.
 struct RunOutput {
     status: i32,
@@ -82,16 +88,26 @@ fn the_sample_is_shown_before_and_after() {
     assert_eq!(last, Some(counts));
 }
 
+/// The text with four spaces before each line.
+fn indented<'a>(lines: impl Iterator<Item = &'a str>) -> String {
+    lines.map(|line| format!("    {line}").trim_end().to_string() + "\n").collect()
+}
+
 #[test]
-fn the_readme_shows_what_the_sample_gives() {
+fn the_readme_shows_what_the_samples_give() {
     let readme = fs::read_to_string(concat!(env!("CARGO_MANIFEST_DIR"), "/../README.md"));
     let readme = readme.expect("the README is there");
     let mut commands = readme.lines().filter_map(|line| line.strip_prefix("    "));
     assert_eq!(commands.next(), Some("./rudzaviks reduce importer/samples/volume.txt"));
     let output = run(&["reduce", SAMPLE], b"").succeeds();
-    let indent = |line: &str| format!("    {line}").trim_end().to_string() + "\n";
-    let shown: String = output.out().lines().map(indent).collect();
+    let shown = indented(output.out().lines());
     assert!(readme.contains(&shown), "the README should have:\n{shown}");
+    for sample in NOT_PROMISED {
+        let output = run(&["reduce", sample], b"").succeeds();
+        let lists = output.out().lines().skip_while(|line| !line.starts_with("line"));
+        let shown = indented(lists.take_while(|line| !line.is_empty()));
+        assert!(readme.contains(&shown), "the README should have:\n{shown}");
+    }
 }
 
 #[test]
