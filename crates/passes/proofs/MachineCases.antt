@@ -1,19 +1,21 @@
 -- The plain machine on small lists, at least one for each kind that it runs, with the words that it must leave; what a word
--- is; and which differences `EndsEqual` tells, and which not.
+-- is; which lists demand 3 is about; and which differences `EndsEqual` tells, and which not.
 -- The lists by computation: each place starts with a word of its own, and an operation's word shows its operands in order.
 use Prim.Native.Nat.{ℕ, _+_, _-_, _*_, _%_, _<_, _≤_}
 use mathlib.Core.Bool.{Bool, true, false, cond}
-use mathlib.Core.List.{List, [], _∷_}
+use mathlib.Core.List.{List, [], _∷_, map}
 use mathlib.Core.Path.{_≡_, refl, sym, _∙_}
 use native.Mathlib.Nat.{mod-lt}
 use native.Mathlib.Omega.{arith}
 use lib.Dec.{eqb, ltb}
 use borrow.Author.Tests.{eq-eqb, ne-eqb}
 use Rattle.mir.specs.declared.config.Settings.{Settings}
+use Rattle.mir.specs.Folds.{allBelow}
 use Rattle.mir.specs.Records.{recordAt, fixedMark}
+use Rattle.mir.proofs.Clash.{clash}
 use Rattle.mir.proofs.Records.{flat}
-use Rattle.passes.specs.Machine.{Word, Meaning, State, write, store, effect, turn, runTo, run, EndsEqual}
-use Rattle.passes.proofs.Cases.{loadConst, load, save, mov, stack, mem}
+use Rattle.passes.specs.Machine.{Word, Meaning, State, write, store, effect, turn, runTo, run, isScalar, AllScalar, EndsEqual}
+use Rattle.passes.proofs.Cases.{loadConst, load, save, mov, label, stack, mem}
 use Rattle.passes.proofs.Lists.{nop, end, uni, bi, fused, ifElse, loadMath, loadConstMath, param, ret, temp, left, right}
 
 -- ---- words
@@ -139,6 +141,21 @@ machine-cases =
       of-load-const-math = refl;
       in-order = refl;
     }
+
+-- ---- which lists demand 3 is about
+
+pub record ScalarCases : Type 0 where
+  -- kinds 0 to 21
+  pub of-kinds :
+      map isScalar (0 ∷ 1 ∷ 2 ∷ 3 ∷ 4 ∷ 5 ∷ 6 ∷ 7 ∷ 8 ∷ 9 ∷ 10 ∷ 11 ∷ 12 ∷ 13 ∷ 14 ∷ 15 ∷ 16 ∷ 17 ∷ 18 ∷ 19 ∷ 20 ∷ 21 ∷ [])
+      ≡ true ∷ true ∷ true ∷ true ∷ true ∷ true ∷ true ∷ false ∷ false ∷ true ∷ false ∷ false ∷ false ∷ true ∷ true ∷ false ∷ false
+      ∷ false ∷ true ∷ true ∷ false ∷ false ∷ []
+  pub every : AllScalar (flat (nop ∷ save 0 mem 0 ∷ loadConstMath 0 0 0 0 ∷ end ∷ []))
+  pub not-every : AllScalar (flat (nop ∷ label 7 ∷ end ∷ [])) → ⊥
+
+pub scalar-cases : ScalarCases
+unfolding AllScalar allBelow recordAt
+scalar-cases = record { of-kinds = refl; every = refl; not-every = λ (h : false ≡ true). clash (cc) }
 
 -- ---- what is equal at the end
 

@@ -4,7 +4,7 @@ use Prim.Native.Nat.{ℕ, zero, suc, _+_, _*_, _/_, _%_, _^_, _<_}
 use mathlib.Core.Bool.{Bool, true, false, cond, _||_, or-true, or-false}
 use mathlib.Core.List.{List, [], _∷_, _++_}
 use mathlib.Core.Logic.{_⊎_, inl, inr}
-use mathlib.Core.Path.{_≡_, refl, sym, ap, _∙_}
+use mathlib.Core.Path.{_≡_, refl, sym, _∙_}
 use native.Mathlib.Nat.{zero-div}
 use native.Mathlib.Omega.{arith}
 use lib.Bits.{bitOr}
@@ -52,19 +52,16 @@ indexed-none =
 
 module _ (seen : List ℕ) (c : ℕ) (h : c / 64 < length seen) where
   -- the word that has the bit, before and after
-  old : ℕ
+  abbrev old : ℕ
   old = getD seen (c / 64) 0
 
   new-word : getD (withBit seen c) (c / 64) 0 ≡ bitOr old (2 ^ (c % 64))
-  unfolding old
   new-word = getD-set-same seen (c / 64) (bitOr old (2 ^ (c % 64))) 0 h
 
   bit-same : bitAt (withBit seen c) c ≡ 1
-  unfolding old
   bit-same = rw new-word (digit-same old (c % 64))
 
   bit-other : (d : ℕ) → (d ≡ c → ⊥) → bitAt (withBit seen c) d ≡ bitAt seen d
-  unfolding old
   bit-other d other = go (same-or (d / 64) (c / 64))
     where
       go : (d / 64 ≡ c / 64) ⊎ (d / 64 ≡ c / 64 → ⊥) → bitAt (withBit seen c) d ≡ bitAt seen d
