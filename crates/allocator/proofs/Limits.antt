@@ -1,23 +1,13 @@
--- Question 4's limits, `room-cases`: each slice just long enough, and each short by one word; and that 4 is said at 0.
--- By computation.
+-- Question 4's limits, `room-cases`: each slice just long enough, and each short by one word.
+-- By computation. That 4 is said at 0, after 1 to 3, is a limit of crate mir.
 use mathlib.Core.Bool.{true, false}
 use mathlib.Core.List.{[], _∷_}
 use mathlib.Core.Path.{_≡_, refl}
-use Rattle.mir.specs.declared.config.Settings.{Settings}
-use Rattle.mir.specs.declared.questions.Verdict.the-variants.{Passed, Refused}
-use Rattle.mir.specs.Folds.{allBelow, all, firstRefusal}
-use Rattle.mir.specs.Questions.{refusal, recordRefusal, recordNo, fewRegisters, fewArgs, wellSized, knownKind, fieldsFit, wordsFit}
-use Rattle.mir.specs.Questions.{gensFit, partnerFits, sourcesNamed}
-use Rattle.mir.specs.Records.{recordAt}
-use Rattle.mir.specs.Renaming.{gens, produced, renamed, staticsTo, regsTo}
-use Rattle.mir.specs.Shapes.{row, shapeOf, dests, sources, registers}
+use Rattle.mir.specs.Shapes.{row}
 use Rattle.walks.specs.Lent.{lent}
-use Rattle.allocator.specs.Optimize.{roomFor, roomIn, verdictOf}
+use Rattle.allocator.specs.Optimize.{roomFor, roomIn}
 
-abbrev settings : Settings
-settings = record { «count_regs» = 1; args = 0; complex = false; arm = false; compress = false }
-
--- three records and three pairs; then one Nop
+-- three records and three pairs, by their numbers; then a record and a pair
 pub record RoomCases : Type 0 where
   pub enough : roomFor 24 6 24 6 6 18 ≡ true
   pub out : roomFor 24 6 23 6 6 18 ≡ false
@@ -25,15 +15,14 @@ pub record RoomCases : Type 0 where
   pub ends : roomFor 24 6 24 6 5 18 ≡ false
   pub set : roomFor 24 6 24 6 6 17 ≡ false
   pub nothing : roomFor 0 0 0 0 0 0 ≡ true
-  pub passing :
-      verdictOf settings (row 0 0 0 0 0 0 0 0) [] (lent (row 1 2 3 4 5 6 7 8) (1 ∷ 2 ∷ []) (1 ∷ 2 ∷ []) (1 ∷ 2 ∷ 3 ∷ 4 ∷ []))
-      ≡ Passed
-  pub four :
-      verdictOf settings (row 0 0 0 0 0 0 0 0) [] (lent (row 1 2 3 4 5 6 7 8) (1 ∷ []) (1 ∷ 2 ∷ []) (1 ∷ 2 ∷ 3 ∷ 4 ∷ []))
-      ≡ Refused 4 0
+  pub all-in :
+      roomIn (row 0 0 0 0 0 0 0 0) (1 ∷ 2 ∷ []) (lent (row 1 2 3 4 5 6 7 8) (1 ∷ 2 ∷ []) (3 ∷ 4 ∷ []) (1 ∷ 2 ∷ 3 ∷ 4 ∷ 5 ∷ 6 ∷ []))
+      ≡ true
+  pub short-set :
+      roomIn (row 0 0 0 0 0 0 0 0) (1 ∷ 2 ∷ []) (lent (row 1 2 3 4 5 6 7 8) (1 ∷ 2 ∷ []) (3 ∷ 4 ∷ []) (1 ∷ 2 ∷ 3 ∷ 4 ∷ 5 ∷ []))
+      ≡ false
 
 pub room-cases : RoomCases
-unfolding roomFor roomIn verdictOf refusal recordRefusal recordNo fewRegisters fewArgs wellSized knownKind fieldsFit wordsFit gensFit
-    partnerFits sourcesNamed allBelow all firstRefusal recordAt gens produced renamed staticsTo regsTo shapeOf dests sources registers
+unfolding roomFor roomIn
 room-cases =
-    record { enough = refl; out = refl; colours = refl; ends = refl; set = refl; nothing = refl; passing = refl; four = refl }
+    record { enough = refl; out = refl; colours = refl; ends = refl; set = refl; nothing = refl; all-in = refl; short-set = refl }
