@@ -23,6 +23,7 @@ unfoldable pub roomFor : (list table out colours ends set : ℕ) → Bool
 roomFor list table out colours ends set =
     leb list out && (leb (list / 8 * 2) colours && (leb (list / 8 * 2) ends && leb (list / 8 * 4 + table) set))
 
+-- and of the slices themselves
 unfoldable pub roomIn : List ℕ → List ℕ → Lent → Bool
 roomIn list table held =
     roomFor (length list) (length table) (length (held .out)) (length (held .colours)) (length (held .ends)) (length (held .set))
@@ -31,6 +32,7 @@ roomIn list table held =
 unfoldable pub verdictOf : Settings → List ℕ → List ℕ → Lent → Verdict
 verdictOf s list table held = refusal (roomIn list table held) s list table
 
+-- the answer in document 01's terms: the seven counts, or number and index
 abbrev pub report : Answer → Report
 report (Reduced c) = answered (valuesIn c)
 report (Refused number index) = refused number index
