@@ -1,6 +1,6 @@
 -- One bit of a number, after a bit of it was set: that bit is 1, and every other is what it was.
 -- By the library's laws of `bitOr`, shifted and then cut to one digit.
-use Prim.Native.Nat.{ℕ, zero, suc, _+_, _-_, _*_, _/_, _%_, _^_, _<_}
+use Prim.Native.Nat.{ℕ, zero, suc, _+_, _-_, _/_, _%_, _^_, _<_}
 use mathlib.Core.Path.{_≡_, refl, sym, ap, _∙_}
 use native.Mathlib.Decide.{decLt}
 use native.Mathlib.Nat.{mod-lt, div-self, div-eq-of-lt, one-mul}

@@ -1,18 +1,15 @@
 -- The walks one after the other: what each leaves is what the next asks for, and the whole is the definitions'.
 -- By the laws of a slice that starts with words; a later walk writes over what an earlier one left.
-use Prim.Native.Nat.{ℕ, _+_, _*_, _/_, _≤_}
-use mathlib.Core.Bool.{true, _&&_}
+use Prim.Native.Nat.{ℕ, _*_, _≤_}
 use mathlib.Core.List.{List, [], _∷_}
 use mathlib.Core.Path.{_≡_, refl, sym, ap, _∙_}
 use native.Mathlib.Omega.{arith}
-use lib.Dec.{leb}
 use lib.ListN.{length}
-use borrow.Author.Tests.{leb-true}
 use Rattle.mir.specs.declared.config.Settings.{Settings}
 use Rattle.mir.specs.Records.{records}
 use Rattle.mir.specs.Shapes.{any}
 use Rattle.mir.proofs.Passing.{ListPasses}
-use Rattle.mir.proofs.Renaming.{and-both, statics-two}
+use Rattle.mir.proofs.Renaming.{statics-two}
 use Rattle.passes.specs.Color.{setup}
 use Rattle.passes.specs.Create.{endsOf}
 use Rattle.passes.specs.Machine.{Passing}

@@ -44,28 +44,64 @@ pub record Colouring (n : ℕ) (list table C0 E0 S0 : List ℕ) (i : ℕ) (σ : 
   pub slices-are : σ ≡ slicesAt n list table C0 E0 i
   pub set-holds : SetHolds S0 words members (colorTo (counted n list table) i .members)
 
-module _ (s : Settings) (list table : List ℕ) (h : Passing s list table) (C0 E0 S0 : List ℕ)
-    (colours-room : records list * 2 ≤ length C0) (ends-room : records list * 2 ≤ length E0) (set-room : records list * 4 + length table ≤ length S0) where
+-- what the walk is called with: a list that passes, and slices that have room
+pub record Call : Type 0 where
+  pub settings : Settings
+  pub list : List ℕ
+  pub table : List ℕ
+  pub passing : Passing settings list table
+  pub colours : List ℕ
+  pub ends : List ℕ
+  pub words : List ℕ
+  pub colours-room : records list * 2 ≤ length colours
+  pub ends-room : records list * 2 ≤ length ends
+  pub words-room : records list * 4 + length table ≤ length words
+
+abbrev pub setupOf : Call → Setup
+setupOf g = counted (g .settings .«count_regs») (g .list) (g .table)
+
+abbrev pub slicesOf : Call → ℕ → Slices
+slicesOf g i = slicesAt (g .settings .«count_regs») (g .list) (g .table) (g .colours) (g .ends) i
+
+module _ (g : Call) where
+  abbrev s : Settings
+  s = g .settings
+
   abbrev n : ℕ
   n = s .«count_regs»
 
+  abbrev list : List ℕ
+  list = g .list
+
+  abbrev table : List ℕ
+  table = g .table
+
+  abbrev C0 : List ℕ
+  C0 = g .colours
+
+  abbrev E0 : List ℕ
+  E0 = g .ends
+
+  abbrev S0 : List ℕ
+  S0 = g .words
+
   pub passes : ListPasses s list table
-  passes = passing-list s list table h
+  passes = passing-list s list table (g .passing)
 
   pub wide : length (endsOf list) ≤ length C0
-  wide = omega (arith, ends-all, statics-two list (records list), colours-room)
+  wide = omega (arith, ends-all, statics-two list (records list), g .colours-room)
     where
       ends-all : length (endsOf list) ≡ staticsTo list (records list)
       ends-all = all-statics s list table passes (endsOf list) (endsOf list) (omega arith)
 
   pub ends-fit : length (endsOf list) ≤ length E0
-  ends-fit = omega (arith, all-statics s list table passes C0 E0 wide, statics-two list (records list), ends-room)
+  ends-fit = omega (arith, all-statics s list table passes C0 E0 wide, statics-two list (records list), g .ends-room)
 
   module _ {i : ℕ} {σ : Slices} {words : List ℕ} {members : ℕ} {regs : List Current} {statics : ℕ} (inv : Colouring (s .«count_regs») list table C0 E0 S0 i σ words members regs statics) (le : i ≤ records list) where
     pub colours-same : length (σ .colours) ≡ length C0
     colours-same =
         ap (λ (τ : Slices). length (τ .colours)) (inv .slices-are)
-        ∙ over-length (colorTo (counted n list table) i .colours) C0 (rw (ready-to s list table passes i le .next) (omega (arith, statics-two list i, colours-room)))
+        ∙ over-length (colorTo (counted n list table) i .colours) C0 (rw (ready-to s list table passes i le .next) (omega (arith, statics-two list i, g .colours-room)))
 
     pub ends-same : length (σ .ends) ≡ length E0
     ends-same =
@@ -92,15 +128,15 @@ module _ (s : Settings) (list table : List ℕ) (h : Passing s list table) (C0 E
           (
             rw e (passes .each i l .partner),
             (
-              walked-known (inv .walked) (omega (arith, c, first-fits (length C0) colours-room)),
+              walked-known (inv .walked) (omega (arith, c, first-fits (length C0) (g .colours-room))),
               (
                 rw (inv .slices-are, inv .walked .regs-are, e) (sources-fit s list table passes C0 E0 wide i l),
                 (
                   passes .few,
                   (
-                    rw c (first-fits (length C0) colours-room),
+                    rw c (first-fits (length C0) (g .colours-room)),
                     (
-                      rw d (first-fits (length E0) ends-room),
+                      rw d (first-fits (length E0) (g .ends-room)),
                       rw (inv .slices-are, inv .walked .regs-are, inv .walked .statics-are, e) (record-ready s list table passes C0 E0 wide i l),
                     ),
                   ),
@@ -123,7 +159,7 @@ module _ (s : Settings) (list table : List ℕ) (h : Passing s list table) (C0 E
       reads-are = rw (add-one i, members-next (counted n list table) i, set-pairs (inv .set-holds), f, e) refl
 
       members-fit : length (colorTo (counted n list table) (i + 1) .members) * 2 ≤ length S0
-      members-fit = rw (add-one i) (omega (arith, few-members s list table passes (suc i) (omega arith), set-room))
+      members-fit = rw (add-one i) (omega (arith, few-members s list table passes (suc i) (omega arith), g .words-room))
 
       pub read-asks : (fieldsFit table rec ≡ true) × ((partnerFits rec ≡ true) × ((members * 2 ≤ length words) × (length (joined (pairsFrom words 0 members) (readsOf table rec found)) * 2 ≤ length words)))
       read-asks = (

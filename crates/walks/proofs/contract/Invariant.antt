@@ -86,9 +86,49 @@ put-after R W O0 at false e = ap (λ xs. over xs O0) (sym (append-nil R))
 put-after R W O0 at true e =
     rw (e, take-append-seam R (drop (length R) O0), drop-append-seam R (drop (length R) O0)) (over-after R W O0)
 
-module _ (s : Settings) (list table C E0 S : List ℕ) (members : ℕ) (col : Colored s list table C E0 S members) (O0 : List ℕ) (out-room : length list ≤ length O0) where
+-- what the walk is called with: what the third walk left, and an output that has room
+pub record Call : Type 0 where
+  pub settings : Settings
+  pub list : List ℕ
+  pub table : List ℕ
+  pub colours : List ℕ
+  pub ends : List ℕ
+  pub words : List ℕ
+  pub count : ℕ
+  pub colored : Colored settings list table colours ends words count
+  pub out : List ℕ
+  pub room-out : length list ≤ length out
+
+module _ (g : Call) where
+  abbrev s : Settings
+  s = g .settings
+
+  abbrev list : List ℕ
+  list = g .list
+
+  abbrev table : List ℕ
+  table = g .table
+
   abbrev u : Setup
   u = setup s list table
+
+  abbrev C : List ℕ
+  C = g .colours
+
+  abbrev E0 : List ℕ
+  E0 = g .ends
+
+  abbrev S : List ℕ
+  S = g .words
+
+  abbrev members : ℕ
+  members = g .count
+
+  abbrev O0 : List ℕ
+  O0 = g .out
+
+  abbrev col : Colored s list table C E0 S members
+  col = g .colored
 
   pub passes : ListPasses s list table
   passes = passing-list s list table (col .passing)
@@ -140,7 +180,7 @@ module _ (s : Settings) (list table C E0 S : List ℕ) (members : ℕ) (col : Co
     pub out-same : length out ≡ length O0
     out-same =
         ap length (inv .out-is)
-        ∙ over-length (reducedTo (fixedMark s) u i) O0 (omega (arith, reduced-length (fixedMark s) u i le, kept-few, out-room))
+        ∙ over-length (reducedTo (fixedMark s) u i) O0 (omega (arith, reduced-length (fixedMark s) u i le, kept-few, g .room-out))
 
   module _ {i : ℕ} {ends out : List ℕ} {t : Tally} (inv : Contracting s list table E0 O0 i ends out t) (l : i < length list / 8)
       {regs : List Current} {statics : ℕ} (w : Walked list i regs statics) {rec : List ℕ} (e : rec ≡ recordAt list i) where
@@ -167,7 +207,7 @@ module _ (s : Settings) (list table C E0 S : List ℕ) (members : ℕ) (col : Co
                     members-in,
                     (
                       rw (inv .tally-is) (omega (arith, q, few), omega (arith, q, few), omega (arith, q, few), omega (arith, q, few), omega (arith, q, few)),
-                      rw (inv .tally-is) (omega (arith, q, out-same inv below, out-room)),
+                      rw (inv .tally-is) (omega (arith, q, out-same inv below, g .room-out)),
                     ),
                   ),
                 ),

@@ -1,14 +1,14 @@
 -- `walks::color::color` meets its contract: before each record the slices and the set are the definitions'.
 -- By what `Colouring` says of a record.
 use Rattle.mir.proofs.Renaming.{statics-two, gens-two}
-use Prim.Native.Nat.{_+_, _/_, _-_, _≤_}
+use Prim.Native.Nat.{ℕ, _+_, _*_, _/_, _-_, _<_, _≤_}
 use mathlib.Core.Path.{_≡_, refl, sym, ap, subst, _∙_}
 use native.Mathlib.Omega.{arith}
 use lib.ListN.{length}
 use Rattle.passes.specs.Color.{colorTo, foundAt}
 use Rattle.passes.specs.Contract.{coloursOf, membersOf, wordsOf}
 use Rattle.walks.specs.Walks.{Indexed, Slices, slices, Passes, foundsTo, marked, recordStep}
-use Rattle.walks.proofs.color.Invariant.{reads-are, Colouring, counted, slicesAt, color-asks, color-gives, found-gives, read-asks, read-gives, colours-same, ends-same}
+use Rattle.walks.proofs.color.Invariant.{reads-are, Call, Colouring, counted, setupOf, slicesOf, color-asks, color-gives, found-gives, read-asks, read-gives, colours-same, ends-same}
 use Rattle.walks.proofs.color.Dests.{slices-same}
 use Rattle.walks.proofs.locs.Pairs.{set-length, set-pairs}
 use Rattle.passes.proofs.NeverEmpty.{ready-to}
@@ -26,9 +26,26 @@ Inv-loop list table colours₀ ends₀ set₀ seen₀ n count regs₀ statics₀
 abbrev μ-loop : tie.MeasureT-loop
 μ-loop list table colours₀ ends₀ set₀ seen₀ n count regs₀ statics₀ allocs₀ members₀ i₀ colours ends set seen regs statics allocs members i = count - i
 
+-- what the walk was called with
+abbrev called : tie.Start Inv-loop μ-loop → Call
+called a =
+    let r = a .pre .1 .1 in
+    record {
+      settings = a .args .settings;
+      list = a .args .list .now;
+      table = a .args .table .now;
+      passing = a .pre .1 .0;
+      colours = a .args .colours .now;
+      ends = a .args .ends .now;
+      words = a .args .set .now;
+      colours-room = r .0;
+      ends-room = r .1 .0;
+      words-room = r .1 .1 .0;
+    }
+
 -- the list passes
-listed : (a : tie.Start Inv-loop μ-loop) → Passes (a .args .list .now)
-listed a = (a .args .settings, a .args .table .now, a .pre .1 .0)
+listed : (g : Call) → Passes (g .list)
+listed g = (g .settings, g .table, g .passing)
 
 cast-n : tie.Need-cast-n Inv-loop μ-loop
 cast-n c = search needs
@@ -39,12 +56,13 @@ reset-allocs-requires c κs = search needs
 loop-holds : tie.Need-loop-holds Inv-loop μ-loop
 unfolding colorTo foundsTo marked wordsOf
 loop-holds c =
-    let a = c .before .before .before .before .before .before .before .before in (
+    let a = c .before .before .before .before .before .before .before .before in
+    let g = called a in (
       search needs,
       (
         record {
-          walked = walked-first (a .args .list .now);
-          slices-are = slices-same (slicesAt (a .args .settings .«count_regs») (a .args .list .now) (a .args .table .now) (a .args .colours .now) (a .args .ends .now) 0) (c .reset-allocs .ensures) refl (a .pre .1 .1 .1 .1 .1);
+          walked = walked-first (g .list);
+          slices-are = slices-same (slicesOf g 0) (c .reset-allocs .ensures) refl (a .pre .1 .1 .1 .1 .1);
           set-holds = record { starts = refl; counted = refl; room = omega arith };
         },
         (a .pre .0, refl),
@@ -54,104 +72,151 @@ loop-holds c =
 record-at-requires : tie.Need-record-at-requires Inv-loop μ-loop
 record-at-requires c κs = omega arith
 
+-- ---- one turn: the record, and then the calls in their order
+
+abbrev call : tie.At-loop Inv-loop μ-loop → Call
+call l = called (l .before .before .before .before .before .before .before .before .before)
+
+abbrev turn : tie.After-record-at Inv-loop μ-loop → tie.At-loop Inv-loop μ-loop
+turn r = r .before .before
+
+abbrev colored : tie.After-color-record Inv-loop μ-loop → tie.After-record-at Inv-loop μ-loop
+colored k = k .before .before .before
+
+abbrev found : tie.After-was-found Inv-loop μ-loop → tie.After-color-record Inv-loop μ-loop
+found f = f .before .before .before .before .before .before
+
+abbrev read : tie.After-read-record Inv-loop μ-loop → tie.After-was-found Inv-loop μ-loop
+read d = d .before .before .before
+
+abbrev recordOf : tie.After-read-record Inv-loop μ-loop → tie.After-record-at Inv-loop μ-loop
+recordOf d = colored (found (read d))
+
+module _ (r : tie.After-record-at Inv-loop μ-loop) where
+  abbrev g : Call
+  g = call (turn r)
+
+  abbrev i : ℕ
+  i = turn r .loop .i
+
+  abbrev in-list : i < length (g .list) / 8
+  in-list = r .before .loop-test .taken
+
+  words-few : length (g .list) ≤ 524288
+  words-few = few-words (g .list) (listed g) i in-list
+
+  statics-few : turn r .loop .statics + 2 ≤ (length (g .list) / 8) * 2
+  statics-few = few-statics (g .list) (listed g) i in-list (turn r .loop .inv .1 .0 .walked)
+
 cast-first : tie.Need-cast-first Inv-loop μ-loop
-cast-first c =
-    let a = c .before .before .before .before .before .before .before .before .before .before .before in
-    let b = c .before .before in
-    let t = c .before .loop-test .taken in
-    omega (arith, few-statics (a .args .list .now) (listed a) (b .loop .i) t (b .loop .inv .1 .0 .walked), few-words (a .args .list .now) (listed a) (b .loop .i) t)
+cast-first r = omega (arith, statics-few r, words-few r)
 
 cast-color-record : tie.Need-cast-color-record Inv-loop μ-loop
-cast-color-record c =
-    let a = c .before .before .before .before .before .before .before .before .before .before .before in
-    omega (arith, few-words (a .args .list .now) (listed a) (c .before .before .loop .i) (c .before .loop-test .taken))
+cast-color-record r = omega (arith, in-list r, words-few r)
 
 color-record-requires : tie.Need-color-record-requires Inv-loop μ-loop
 color-record-requires c κs =
-    let a = c .before .before .before .before .before .before .before .before .before .before .before .before .before in
-    color-asks (a .args .settings) (a .args .list .now) (a .args .table .now) (a .pre .1 .0) (a .args .colours .now) (a .args .ends .now) (a .args .set .now) (a .pre .1 .1 .0) (a .pre .1 .1 .1 .0) (a .pre .1 .1 .1 .1 .0) (c .before .before .before .before .loop .inv .1 .0) (c .before .before .before .loop-test .taken) (c .before .before .record-at .ensures)
+    let r = c .before .before in
+    color-asks (g r) (turn r .loop .inv .1 .0) (in-list r) (r .record-at .ensures)
 
 was-found-requires : tie.Need-was-found-requires Inv-loop μ-loop
 was-found-requires c κs =
-    let a = c .before .before .before .before .before .before .before .before .before .before .before .before .before .before .before .before .before .before .before in
-    let b = c .before .before .before .before .before .before .before .before .before .before in
-    let f = few-statics (a .args .list .now) (listed a) (b .loop .i) (c .before .before .before .before .before .before .before .before .before .loop-test .taken) (b .loop .inv .1 .0 .walked) in
-    omega (arith, f, a .pre .1 .1 .1 .0, ends-same (a .args .settings) (a .args .list .now) (a .args .table .now) (a .pre .1 .0) (a .args .colours .now) (a .args .ends .now) (a .args .set .now) (a .pre .1 .1 .0) (a .pre .1 .1 .1 .0) (a .pre .1 .1 .1 .1 .0) (b .loop .inv .1 .0) (b .loop .inv .0), c .before .before .before .before .before .color-record .kept .1 .1 .1 .1 .1 .1 .1 .0)
+    let k = c .before .before .before .before .before in
+    let r = colored k in
+    let inv = turn r .loop .inv in
+    omega (arith, statics-few r, g r .ends-room, ends-same (g r) (inv .1 .0) (inv .0), k .color-record .kept .1 .1 .1 .1 .1 .1 .1 .0)
 
 -- the slices after the record
-after : (c : tie.After-color-record Inv-loop μ-loop) → slices (c .color-record .result) (c .color-record .last .1 .1 .1 .1 .1 .1 .0) (c .color-record .last .1 .1 .1 .1 .1 .1 .1 .0) ≡ slicesAt (c .before .before .before .before .before .before .before .before .before .before .before .before .before .before .args .settings .«count_regs») (c .before .before .before .before .before .before .before .before .before .before .before .before .before .before .args .list .now) (c .before .before .before .before .before .before .before .before .before .before .before .before .before .before .args .table .now) (c .before .before .before .before .before .before .before .before .before .before .before .before .before .before .args .colours .now) (c .before .before .before .before .before .before .before .before .before .before .before .before .before .before .args .ends .now) (c .before .before .before .before .before .loop .i + 1)
-after c =
-    let a = c .before .before .before .before .before .before .before .before .before .before .before .before .before .before in
-    let b = c .before .before .before .before .before in
-    slices-same (recordStep (a .args .settings .«count_regs») (b .loop .i) (b .loop .statics) (b .loop .regs) (c .before .before .before .record-at .result) (slices (b .loop .allocs) (b .loop .colours) (b .loop .ends))) (c .color-record .ensures .0) (c .color-record .ensures .1 .0) (c .color-record .ensures .1 .1)
-    ∙ color-gives (a .args .settings) (a .args .list .now) (a .args .table .now) (a .pre .1 .0) (a .args .colours .now) (a .args .ends .now) (a .args .set .now) (a .pre .1 .1 .0) (a .pre .1 .1 .1 .0) (a .pre .1 .1 .1 .1 .0) (b .loop .inv .1 .0) (c .before .before .before .before .loop-test .taken) (c .before .before .before .record-at .ensures)
+after : (k : tie.After-color-record Inv-loop μ-loop) →
+    let last = k .color-record .last .1 .1 .1 .1 .1 .1 in
+    slices (k .color-record .result) (last .0) (last .1 .0) ≡ slicesOf (g (colored k)) (i (colored k) + 1)
+after k =
+    let r = colored k in
+    let l = turn r .loop in
+    let e = k .color-record .ensures in
+    let σ = slices (l .allocs) (l .colours) (l .ends) in
+    slices-same (recordStep (g r .settings .«count_regs») (l .i) (l .statics) (l .regs) (r .record-at .result) σ) (e .0) (e .1 .0) (e .1 .1)
+    ∙ color-gives (g r) (l .inv .1 .0) (in-list r) (r .record-at .ensures)
 
-found-is : (c : tie.After-was-found Inv-loop μ-loop) → c .was-found .result ≡ foundAt (counted (c .before .before .before .before .before .before .before .before .before .before .before .before .before .before .before .before .before .before .before .before .args .settings .«count_regs») (c .before .before .before .before .before .before .before .before .before .before .before .before .before .before .before .before .before .before .before .before .args .list .now) (c .before .before .before .before .before .before .before .before .before .before .before .before .before .before .before .before .before .before .before .before .args .table .now)) (c .before .before .before .before .before .before .before .before .before .before .before .loop .i) (colorTo (counted (c .before .before .before .before .before .before .before .before .before .before .before .before .before .before .before .before .before .before .before .before .args .settings .«count_regs») (c .before .before .before .before .before .before .before .before .before .before .before .before .before .before .before .before .before .before .before .before .args .list .now) (c .before .before .before .before .before .before .before .before .before .before .before .before .before .before .before .before .before .before .before .before .args .table .now)) (c .before .before .before .before .before .before .before .before .before .before .before .loop .i))
-found-is c =
-    let a = c .before .before .before .before .before .before .before .before .before .before .before .before .before .before .before .before .before .before .before .before in
-    c .was-found .ensures
-    ∙ found-gives (a .args .settings) (a .args .list .now) (a .args .table .now) (a .pre .1 .0) (a .args .colours .now) (a .args .ends .now) (a .args .set .now) (a .pre .1 .1 .0) (a .pre .1 .1 .1 .0) (a .pre .1 .1 .1 .1 .0) (c .before .before .before .before .before .before .before .before .before .before .before .loop .inv .1 .0) (c .before .before .before .before .before .before .before .before .before .before .loop-test .taken) (c .before .before .before .before .before .before .before .before .before .record-at .ensures) (ap (λ (σ : Slices). σ .ends) (after (c .before .before .before .before .before .before)))
+found-is : (f : tie.After-was-found Inv-loop μ-loop) →
+    let r = colored (found f) in
+    f .was-found .result ≡ foundAt (setupOf (g r)) (i r) (colorTo (setupOf (g r)) (i r))
+found-is f =
+    let k = found f in
+    let r = colored k in
+    f .was-found .ensures
+    ∙ found-gives (g r) (turn r .loop .inv .1 .0) (in-list r) (r .record-at .ensures) (ap (λ (σ : Slices). σ .ends) (after k))
 
 read-record-requires : tie.Need-read-record-requires Inv-loop μ-loop
 read-record-requires c κs =
-    let a = c .before .before .before .before .before .before .before .before .before .before .before .before .before .before .before .before .before .before .before .before .before .before in
-    (rw (set-pairs (c .before .before .before .before .before .before .before .before .before .before .before .before .before .loop .inv .1 .0 .set-holds)) (c .before .before .before .before .before .before .before .before .before .before .before .before .before .loop .inv .1 .1 .0), read-asks (a .args .settings) (a .args .list .now) (a .args .table .now) (a .pre .1 .0) (a .args .colours .now) (a .args .ends .now) (a .args .set .now) (a .pre .1 .1 .0) (a .pre .1 .1 .1 .0) (a .pre .1 .1 .1 .1 .0) (c .before .before .before .before .before .before .before .before .before .before .before .before .before .loop .inv .1 .0) (c .before .before .before .before .before .before .before .before .before .before .before .before .loop-test .taken) (c .before .before .before .before .before .before .before .before .before .before .before .record-at .ensures) (found-is (c .before .before)))
+    let f = c .before .before in
+    let r = colored (found f) in
+    let inv = turn r .loop .inv in (
+      rw (set-pairs (inv .1 .0 .set-holds)) (inv .1 .1 .0),
+      read-asks (g r) (inv .1 .0) (in-list r) (r .record-at .ensures) (found-is f),
+    )
 
 rename-requires : tie.Need-rename-requires Inv-loop μ-loop
 rename-requires c κs =
-    let a = c .before .before .before .before .before .before .before .before .before .before .before .before .before .before .before .before .before .before .before .before .before .before .before .before .before .before .before in
-    let b = c .before .before .before .before .before .before .before .before .before .before .before .before .before .before .before .before .before .before in
-    let t = c .before .before .before .before .before .before .before .before .before .before .before .before .before .before .before .before .before .loop-test .taken in
-    (gens-fit (a .args .list .now) (listed a) (b .loop .i) t (c .before .before .before .before .before .before .before .before .before .before .before .before .before .before .before .before .record-at .ensures), omega (arith, few-statics (a .args .list .now) (listed a) (b .loop .i) t (b .loop .inv .1 .0 .walked), few-words (a .args .list .now) (listed a) (b .loop .i) t))
+    let r = recordOf (c .before .before .before .before) in
+    (gens-fit (g r .list) (listed (g r)) (i r) (in-list r) (r .record-at .ensures), omega (arith, statics-few r, words-few r))
 
 count-statics-requires : tie.Need-count-statics-requires Inv-loop μ-loop
 count-statics-requires c κs = search needs
 
 add-statics : tie.Need-add-statics Inv-loop μ-loop
 add-statics c =
-    let a = c .before .before .before .before .before .before .before .before .before .before .before .before .before .before .before .before .before .before .before .before .before .before .before .before .before .before .before .before .before in
-    let b = c .before .before .before .before .before .before .before .before .before .before .before .before .before .before .before .before .before .before .before .before in
-    let t = c .before .before .before .before .before .before .before .before .before .before .before .before .before .before .before .before .before .before .before .loop-test .taken in
-    rw (c .count-statics .ensures) (omega (arith, few-statics (a .args .list .now) (listed a) (b .loop .i) t (b .loop .inv .1 .0 .walked), few-words (a .args .list .now) (listed a) (b .loop .i) t, gens-two (c .before .before .before .before .before .before .before .before .before .before .before .before .before .before .before .before .before .before .record-at .result)))
+    let r = recordOf (c .before .before .before .before .before .before) in
+    rw (c .count-statics .ensures) (omega (arith, statics-few r, words-few r, gens-two (r .record-at .result)))
 
 add-i : tie.Need-add-i Inv-loop μ-loop
 add-i c =
-    let a = c .before .before .before .before .before .before .before .before .before .before .before .before .before .before .before .before .before .before .before .before .before .before .before .before .before .before .before .before .before in
-    omega (arith, c .before .before .before .before .before .before .before .before .before .before .before .before .before .before .before .before .before .before .before .loop-test .taken, few-words (a .args .list .now) (listed a) (c .before .before .before .before .before .before .before .before .before .before .before .before .before .before .before .before .before .before .before .before .loop .i) (c .before .before .before .before .before .before .before .before .before .before .before .before .before .before .before .before .before .before .before .loop-test .taken))
+    let r = recordOf (c .before .before .before .before .before .before) in
+    omega (arith, in-list r, words-few r)
 
 loop-less : tie.Need-loop-less Inv-loop μ-loop
 loop-less c = search needs
 
 loop-again : tie.Need-loop-again Inv-loop μ-loop
 loop-again c =
-    let a = c .before .before .before .before .before .before .before .before .before .before .before .before .before .before .before .before .before .before .before .before .before .before .before .before .before .before .before .before .before in
-    let b = c .before .before .before .before .before .before .before .before .before .before .before .before .before .before .before .before .before .before .before .before in (
-      omega (arith, c .before .before .before .before .before .before .before .before .before .before .before .before .before .before .before .before .before .before .before .loop-test .taken),
+    let d = c .before .before .before .before .before .before in
+    let r = recordOf d in
+    let inv = turn r .loop .inv in
+    let e = r .record-at .ensures in
+    let f = found-is (read d) in
+    let q = d .read-record .ensures in (
+      omega (arith, in-list r),
       (
         record {
-          walked = walked-next (c .before .before .before .before .before .before .before .before .before .before .before .before .before .before .before .before .before .before .record-at .result) (b .loop .inv .1 .0 .walked) (c .before .before .before .before .before .before .before .before .before .before .before .before .before .before .before .before .before .before .record-at .ensures) (c .before .rename .ensures) (c .count-statics .ensures);
-          slices-are = after (c .before .before .before .before .before .before .before .before .before .before .before .before .before .before .before);
-          set-holds = read-gives (a .args .settings) (a .args .list .now) (a .args .table .now) (a .pre .1 .0) (a .args .colours .now) (a .args .ends .now) (a .args .set .now) (a .pre .1 .1 .0) (a .pre .1 .1 .1 .0) (a .pre .1 .1 .1 .1 .0) (b .loop .inv .1 .0) (c .before .before .before .before .before .before .before .before .before .before .before .before .before .before .before .before .before .before .before .loop-test .taken) (c .before .before .before .before .before .before .before .before .before .before .before .before .before .before .before .before .before .before .record-at .ensures) (found-is (c .before .before .before .before .before .before .before .before .before)) (c .before .before .before .before .before .before .read-record .ensures .1 .0) (c .before .before .before .before .before .before .read-record .ensures .1 .1);
+          walked = walked-next (r .record-at .result) (inv .1 .0 .walked) e (c .before .rename .ensures) (c .count-statics .ensures);
+          slices-are = after (found (read d));
+          set-holds = read-gives (g r) (inv .1 .0) (in-list r) e f (q .1 .0) (q .1 .1);
         },
-        (subst (Indexed (c .before .before .before .before .before .before .read-record .last .1 .1 .1 .1 .1 .0)) (reads-are (a .args .settings) (a .args .list .now) (a .args .table .now) (a .pre .1 .0) (a .args .colours .now) (a .args .ends .now) (a .args .set .now) (a .pre .1 .1 .0) (a .pre .1 .1 .1 .0) (a .pre .1 .1 .1 .1 .0) (b .loop .inv .1 .0) (c .before .before .before .before .before .before .before .before .before .before .before .before .before .before .before .before .before .before .before .loop-test .taken) (c .before .before .before .before .before .before .before .before .before .before .before .before .before .before .before .before .before .before .record-at .ensures) (found-is (c .before .before .before .before .before .before .before .before .before))) (c .before .before .before .before .before .before .read-record .ensures .0), c .before .before .before .before .before .before .read-record .kept .1 .1 .1 .1 .1 .0 ∙ b .loop .inv .1 .1 .1),
+        (
+          subst (Indexed (d .read-record .last .1 .1 .1 .1 .1 .0)) (reads-are (g r) (inv .1 .0) (in-list r) e f) (q .0),
+          d .read-record .kept .1 .1 .1 .1 .1 .0 ∙ inv .1 .1 .1,
+        ),
       ),
     )
 
+-- ---- after the last turn
+
 cast-t21 : tie.Need-cast-t21 Inv-loop μ-loop
 cast-t21 c =
-    let a = c .before .before .before .before .before .before .before .before .before .before in
-    let b = c .before in
-    omega (arith, b .loop .inv .1 .0 .walked .statics-are, statics-two (a .args .list .now) (b .loop .i), b .loop .inv .0, passing-list (a .args .settings) (a .args .list .now) (a .args .table .now) (a .pre .1 .0) .sized .small)
+    let l = c .before in
+    let h = call l in
+    let p = passing-list (h .settings) (h .list) (h .table) (h .passing) in
+    omega (arith, l .loop .inv .1 .0 .walked .statics-are, statics-two (h .list) (l .loop .i), l .loop .inv .0, p .sized .small)
 
 same-length : tie.Need-same-length Inv-loop μ-loop
 same-length c =
-    let a = c .before .before .before .before .before .before .before .before .before .before in
-    colours-same (a .args .settings) (a .args .list .now) (a .args .table .now) (a .pre .1 .0) (a .args .colours .now) (a .args .ends .now) (a .args .set .now) (a .pre .1 .1 .0) (a .pre .1 .1 .1 .0) (a .pre .1 .1 .1 .1 .0) (c .before .loop .inv .1 .0) (c .before .loop .inv .0)
+    let l = c .before in
+    colours-same (call l) (l .loop .inv .1 .0) (l .loop .inv .0)
 
 same-length-2 : tie.Need-same-length-2 Inv-loop μ-loop
 same-length-2 c =
-    let a = c .before .before .before .before .before .before .before .before .before .before in
-    ends-same (a .args .settings) (a .args .list .now) (a .args .table .now) (a .pre .1 .0) (a .args .colours .now) (a .args .ends .now) (a .args .set .now) (a .pre .1 .1 .0) (a .pre .1 .1 .1 .0) (a .pre .1 .1 .1 .1 .0) (c .before .loop .inv .1 .0) (c .before .loop .inv .0)
+    let l = c .before in
+    ends-same (call l) (l .loop .inv .1 .0) (l .loop .inv .0)
 
 same-length-3 : tie.Need-same-length-3 Inv-loop μ-loop
 same-length-3 c = set-length (c .before .loop .inv .1 .0 .set-holds)
@@ -162,12 +227,22 @@ same-length-4 c = c .before .loop .inv .1 .1 .1
 returns : tie.Need-returns Inv-loop μ-loop
 unfolding coloursOf membersOf
 returns c =
-    let a = c .before .before .before .before .before .before .before .before .before .before in
-    let b = c .before in
-    let e : b .loop .i ≡ length (a .args .list .now) / 8 = omega (arith, b .loop .inv .0, c .loop-test .left) in
-    let v = rw e at (b .loop .inv .1 .0) in
-    let r = ready-to (a .args .settings) (a .args .list .now) (a .args .table .now) (passing-list (a .args .settings) (a .args .list .now) (a .args .table .now) (a .pre .1 .0)) (length (a .args .list .now) / 8) (omega arith) in
-    (rw e at (b .loop .inv .1 .1 .0), (v .walked .statics-are ∙ sym (r .next), (v .set-holds .counted, (ap (λ (σ : Slices). σ .colours) (v .slices-are), (ap (λ (σ : Slices). σ .ends) (v .slices-are), v .set-holds .starts)))))
+    let l = c .before .loop in
+    let h = call (c .before) in
+    let e : l .i ≡ length (h .list) / 8 = omega (arith, l .inv .0, c .loop-test .left) in
+    let v = rw e at (l .inv .1 .0) in
+    let p = passing-list (h .settings) (h .list) (h .table) (h .passing) in
+    let r = ready-to (h .settings) (h .list) (h .table) p (length (h .list) / 8) (omega arith) in
+    let σ = v .slices-are in (
+      rw e at (l .inv .1 .1 .0),
+      (
+        v .walked .statics-are ∙ sym (r .next),
+        (
+          v .set-holds .counted,
+          (ap (λ (τ : Slices). τ .colours) σ, (ap (λ (τ : Slices). τ .ends) σ, v .set-holds .starts)),
+        ),
+      ),
+    )
 
 pub color-spec : {M : Type 1} → statement M
 color-spec =

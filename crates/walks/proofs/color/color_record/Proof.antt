@@ -1,11 +1,15 @@
 -- `walks::color::color_record` meets its contract: sources, what the destinations are wanted with, destinations, action.
-use mathlib.Core.Path.{_≡_, sym, ap, _∙_}
+use Prim.Native.Nat.{ℕ, _<_}
+use mathlib.Core.Bool.{true}
+use mathlib.Core.List.{List}
+use mathlib.Core.Path.{_≡_, refl, sym, ap, _∙_}
 use denote.Ref.{now}
 use lib.ListN.{getD}
+use Rattle.mir.specs.declared.shape.Action.{Action}
 use Rattle.mir.specs.declared.shape.Shape.{Shape}
-use Rattle.mir.specs.Shapes.{shapeFor, dests}
+use Rattle.mir.specs.Shapes.{any, shapeFor, dests}
 use Rattle.mir.proofs.Shapes.{isComplex}
-use Rattle.passes.specs.declared.symbol.Loc.{Loc}
+use Rattle.passes.specs.declared.alloc.Held.{Held}
 use Rattle.passes.specs.Color.{locOf, heldBy, wantX, wantY, wanted, updateAllocs}
 use Rattle.walks.specs.Walks.{Slices, slices, destSteps, sourceWords, wantedBy, recordStep}
 use Rattle.walks.proofs.color.Sources.{partner-below}
@@ -17,16 +21,43 @@ use Rattle.walks.proofs.color.color_record.Tie as tie
 abbrev before : tie.Start → Slices
 before a = slices (a .args .allocs) (now (a .args .colours)) (now (a .args .ends))
 
+-- where the first source is known: the call, the record's shape and its location before it
+abbrev start : tie.After-source-at → tie.Start
+start q = q .before .before .before .before .before .before
+
+abbrev source : tie.After-want-y → tie.After-source-at
+source w = w .before .before .before .before .before
+
+module _ (q : tie.After-source-at) where
+  abbrev rec : List ℕ
+  rec = start q .args .t2
+
+  action-is : q .before .before .before .shape-of .result .action ≡ shapeFor rec .action
+  action-is = ap (λ (s : Shape). s .action) (q .before .before .before .shape-of .ensures)
+
+  loc-is : q .before .before .loc-of .result ≡ locOf rec
+  loc-is = q .before .before .loc-of .ensures
+
+  -- the partner of a two-part record's location
+  partner : {act : Action} → isComplex act ≡ true → q .before .before .before .shape-of .result .action ≡ act → locOf rec .index < any
+  partner {act} t e = partner-below rec (ap isComplex (sym action-is ∙ e) ∙ t) (start q .pre .1 .0)
+
 -- what the destinations are wanted with is what the definition says
-wants : (c : tie.After-want-y) → wanted (dests (c .before .before .before .before .before .before .before .before .before .before .before .args .t2)) (c .before .want-x .result) (c .want-y .result) ≡ wantedBy (c .before .before .before .before .before .before .before .before .before .before .before .args .regs) (c .before .before .before .before .before .before .before .before .before .before .before .args .t2) (before (c .before .before .before .before .before .before .before .before .before .before .before))
+wants : (c : tie.After-want-y) →
+    let a = start (source c) in
+    wanted (dests (a .args .t2)) (c .before .want-x .result) (c .want-y .result) ≡ wantedBy (a .args .regs) (a .args .t2) (before a)
 wants c =
-    let a = c .before .before .before .before .before .before .before .before .before .before .before in
-    let rec = a .args .t2 in
-    let l = c .before .before .before .before .before .before .before .loc-of .result in
-    let h = c .before .before .held-by .ensures ∙ ap (heldBy (a .args .allocs)) (c .before .before .before .before .before .source-at .ensures) in
-    let x = c .before .want-x .ensures ∙ (ap (λ (s : Shape). wantX (s .action) l (c .before .before .held-by .result)) (c .before .before .before .before .before .before .before .before .shape-of .ensures) ∙ (ap (λ (m : Loc). wantX (shapeFor rec .action) m (c .before .before .held-by .result)) (c .before .before .before .before .before .before .before .loc-of .ensures) ∙ ap (wantX (shapeFor rec .action) (locOf rec)) h)) in
-    let y = c .want-y .ensures ∙ (ap (λ (s : Shape). wantY (s .action) l) (c .before .before .before .before .before .before .before .before .shape-of .ensures) ∙ ap (wantY (shapeFor rec .action)) (c .before .before .before .before .before .before .before .loc-of .ensures)) in
-    ap (λ k. wanted (dests rec) k (c .want-y .result)) x ∙ ap (wanted (dests rec) (wantX (shapeFor rec .action) (locOf rec) (heldBy (a .args .allocs) (getD (sourceWords (a .args .regs) (now (a .args .colours)) rec) 0 0)))) y
+    let q = source c in
+    let a = start q in
+    let act = shapeFor (rec q) .action in
+    let l = q .before .before .loc-of .result in
+    let h = c .before .before .held-by in
+    let held = h .ensures ∙ ap (heldBy (a .args .allocs)) (q .source-at .ensures) in
+    let x = c .before .want-x .ensures
+    ∙ (ap (λ k. wantX k l (h .result)) (action-is q) ∙ (ap (λ m. wantX act m (h .result)) (loc-is q) ∙ ap (wantX act (locOf (rec q))) held)) in
+    let y = c .want-y .ensures ∙ (ap (λ k. wantY k l) (action-is q) ∙ ap (wantY act) (loc-is q)) in
+    let first = heldBy (a .args .allocs) (getD (sourceWords (a .args .regs) (now (a .args .colours)) (rec q)) 0 0) in
+    ap (λ k. wanted (dests (rec q)) k (c .want-y .result)) x ∙ ap (wanted (dests (rec q)) (wantX act (locOf (rec q)) first)) y
 
 array-read-shape-of : tie.Need-array-read-shape-of
 array-read-shape-of c = search needs
@@ -44,27 +75,31 @@ source-at-requires-2 : tie.Need-source-at-requires-2
 source-at-requires-2 c κs = search needs
 
 held-by-requires : tie.Need-held-by-requires
-held-by-requires c κs = rw (c .before .before .source-at .ensures) (c .before .before .before .before .before .before .before .before .pre .1 .1 .1 .0 0)
+held-by-requires c κs =
+    let q = c .before .before in
+    rw (q .source-at .ensures) (start q .pre .1 .1 .1 .0 0)
 
 want-x-requires : tie.Need-want-x-requires
 want-x-requires c κs = search needs
 
 want-y-requires : tie.Need-want-y-requires
-want-y-requires c κs = λ e. rw (c .before .before .before .before .before .before .loc-of .ensures) (partner-below (c .before .before .before .before .before .before .before .before .before .before .args .t2) (ap isComplex (sym (ap (λ (s : Shape). s .action) (c .before .before .before .before .before .before .before .shape-of .ensures)) ∙ e)) (c .before .before .before .before .before .before .before .before .before .before .pre .1 .0))
+want-y-requires c κs =
+    let q = c .before .before .before .before in
+    λ e. rw (loc-is q) (partner q refl e)
 
 color-dests-requires : tie.Need-color-dests-requires
 color-dests-requires c κs =
-    let a = c .before .before .before .before .before .before .before .before .before .before .before .before .before in
-    (a .pre .1 .1 .1 .1 .0, (a .pre .1 .1 .1 .1 .1 .0, (a .pre .1 .1 .1 .1 .1 .1 .0, rw (wants (c .before .before)) (a .pre .1 .1 .1 .1 .1 .1 .1))))
+    let w = c .before .before in
+    let p = start (source w) .pre .1 .1 .1 .1 in
+    (p .0, (p .1 .0, (p .1 .1 .0, rw (wants w) (p .1 .1 .1))))
 
 update-allocs-requires : tie.Need-update-allocs-requires
 update-allocs-requires c κs =
-    let a = c .before .before .before .before .before .before .before .before .before .before .before .before .before .before .before .before .before .before in (
-      rw (c .before .before .before .before .before .before .before .before .before .before .before .before .source-at .ensures) (a .pre .1 .1 .1 .0 0),
-      (
-        rw (c .before .before .before .before .before .before .before .before .before .before .source-at2 .ensures) (a .pre .1 .1 .1 .0 1),
-        λ e. rw (c .before .before .before .before .before .before .before .before .before .before .before .before .before .before .loc-of .ensures) (partner-below (a .args .t2) (ap isComplex (sym (ap (λ (s : Shape). s .action) (c .before .before .before .before .before .before .before .before .before .before .before .before .before .before .before .shape-of .ensures)) ∙ e)) (a .pre .1 .0)),
-      ),
+    let w = c .before .before .before .before .before .before .before in
+    let q = source w in
+    let below = start q .pre .1 .1 .1 .0 in (
+      rw (q .source-at .ensures) (below 0),
+      (rw (w .before .before .before .source-at2 .ensures) (below 1), λ e. rw (loc-is q) (partner q refl e)),
     )
 
 same-length : tie.Need-same-length
@@ -76,25 +111,25 @@ same-length-2 c = search needs
 returns : tie.Need-returns
 unfolding recordStep
 returns c =
-    let a = c .before .before .before .before .before .before .before .before .before .before .before .before .before .before .before .before .before .before .before in
-    let w = wants (c .before .before .before .before .before .before .before .before) in
-    let n = a .args .n in
+    let w = c .before .before .before .before .before .before .before .before in
+    let q = source w in
+    let a = start q in
     let d = c .before .before .before .before .before .color-dests in
-    let σ = before a in
-    let g = d .ensures .0 ∙ ap (λ ds. destSteps n (a .args .i) (a .args .next) ds σ .allocs) w in
-    let x = c .before .before .before .before .before .before .before .before .before .before .before .before .before .source-at .result in
-    let y = c .before .before .before .before .before .before .before .before .before .before .before .source-at2 .result in
-    let l = c .before .before .before .before .before .before .before .before .before .before .before .before .before .before .before .loc-of .result in
-    let act = shapeFor (a .args .t2) .action in (
+    let steps : List (ℕ × Held) → Slices = λ ds. destSteps (a .args .n) (a .args .i) (a .args .next) ds (before a) in
+    let x = q .source-at .result in
+    let y = w .before .before .before .source-at2 .result in
+    let l = q .before .before .loc-of .result in
+    let act = shapeFor (rec q) .action in
+    let src : ℕ → ℕ = λ k. getD (sourceWords (a .args .regs) (now (a .args .colours)) (rec q)) k 0 in (
       c .update-allocs .ensures
-          ∙ (ap (λ (s : Shape). updateAllocs (s .action) l x y (d .result)) (c .before .before .before .before .before .before .before .before .before .before .before .before .before .before .before .before .shape-of .ensures)
-          ∙ (ap (λ (m : Loc). updateAllocs act m x y (d .result)) (c .before .before .before .before .before .before .before .before .before .before .before .before .before .before .before .loc-of .ensures)
-          ∙ (ap (λ k. updateAllocs act (locOf (a .args .t2)) k y (d .result)) (c .before .before .before .before .before .before .before .before .before .before .before .before .before .source-at .ensures)
-          ∙ (ap (λ k. updateAllocs act (locOf (a .args .t2)) (getD (sourceWords (a .args .regs) (σ .colours) (a .args .t2)) 0 0) k (d .result)) (c .before .before .before .before .before .before .before .before .before .before .before .source-at2 .ensures)
-          ∙ ap (updateAllocs act (locOf (a .args .t2)) (getD (sourceWords (a .args .regs) (σ .colours) (a .args .t2)) 0 0) (getD (sourceWords (a .args .regs) (σ .colours) (a .args .t2)) 1 0)) g)))),
+          ∙ (ap (λ k. updateAllocs k l x y (d .result)) (action-is q)
+          ∙ (ap (λ m. updateAllocs act m x y (d .result)) (loc-is q)
+          ∙ (ap (λ k. updateAllocs act (locOf (rec q)) k y (d .result)) (q .source-at .ensures)
+          ∙ (ap (λ k. updateAllocs act (locOf (rec q)) (src 0) k (d .result)) (w .before .before .before .source-at2 .ensures)
+          ∙ ap (updateAllocs act (locOf (rec q)) (src 0) (src 1)) (d .ensures .0 ∙ ap (λ ds. steps ds .allocs) (wants w)))))),
       (
-        d .ensures .1 .0 ∙ ap (λ ds. destSteps n (a .args .i) (a .args .next) ds σ .colours) w,
-        d .ensures .1 .1 ∙ ap (λ ds. destSteps n (a .args .i) (a .args .next) ds σ .ends) w,
+        d .ensures .1 .0 ∙ ap (λ ds. steps ds .colours) (wants w),
+        d .ensures .1 .1 ∙ ap (λ ds. steps ds .ends) (wants w),
       ),
     )
 

@@ -25,9 +25,17 @@ use Rattle.walks.proofs.color.read_record.Tie as tie
 act : {s t : Shape} {a : Action} → s ≡ t → s .action ≡ a → t .action ≡ a
 act e f = sym (ap (λ (s : Shape). s .action) e) ∙ f
 
+-- where the shape is known
+abbrev start : tie.After-shape-of → tie.Start
+start s = s .before .before .before .before
+
 -- where nothing joins, the set is as it was
-none : (a : tie.Start) → Indexed (now (a .args .seen)) (pairsFrom (now (a .args .set)) 0 (a .args .members)) × ((a .args .members ≡ length (pairsFrom (now (a .args .set)) 0 (a .args .members))) × (now (a .args .set) ≡ over (wordsOf (pairsFrom (now (a .args .set)) 0 (a .args .members))) (now (a .args .set))))
-none a =
+none : (s : tie.After-shape-of) →
+    let a = start s .args in
+    let ms = pairsFrom (now (a .set)) 0 (a .members) in
+    Indexed (now (a .seen)) ms × ((a .members ≡ length ms) × (now (a .set) ≡ over (wordsOf ms) (now (a .set))))
+none s =
+    let a = start s in
     let h = set-first (now (a .args .set)) (a .args .members) (a .pre .1 .1 .1 .0) in
     (a .pre .0, (h .counted, h .starts))
 
@@ -42,7 +50,9 @@ enum-told c = search needs
 
 returns : tie.Need-returns
 unfolding joined
-returns c = rw (act (c .before .before .before .shape-of .ensures) (c .before .enum-told .given .1), c .if1 .taken) (none (c .before .before .before .before .before .before .before))
+returns c =
+    let s = c .before .before .before in
+    rw (act (s .shape-of .ensures) (c .before .enum-told .given .1), c .if1 .taken) (none s)
 
 loc-of-requires : tie.Need-loc-of-requires
 loc-of-requires c κs = search needs
@@ -50,15 +60,20 @@ loc-of-requires c κs = search needs
 insert-requires : tie.Need-insert-requires
 unfolding joined
 insert-requires c κs =
-    let a = c .before .before .before .before .before .before .before .before .before .before in
-    rw (c .before .loc-of .ensures) (a .pre .0, (a .pre .1 .1 .1 .0, rw (act (c .before .before .before .before .before .before .shape-of .ensures) (c .before .before .before .before .enum-told .given .1), c .before .before .before .if1 .left) at (a .pre .1 .1 .1 .1)))
+    let j = c .before .before .before in
+    let s = j .before .before .before in
+    let a = s .before .before .before .before in
+    let e = act (s .shape-of .ensures) (j .before .enum-told .given .1) in
+    rw (c .before .loc-of .ensures) (a .pre .0, (a .pre .1 .1 .1 .0, rw (e, j .if1 .left) at (a .pre .1 .1 .1 .1)))
 
 enum-told-2 : tie.Need-enum-told-2
 enum-told-2 c = search needs
 
 returns-2 : tie.Need-returns-2
 unfolding joined
-returns-2 c = rw (act (c .before .before .before .shape-of .ensures) (c .before .enum-told2 .given .1), c .if2 .taken) (none (c .before .before .before .before .before .before .before))
+returns-2 c =
+    let s = c .before .before .before in
+    rw (act (s .shape-of .ensures) (c .before .enum-told2 .given .1), c .if2 .taken) (none s)
 
 loc-of-requires-2 : tie.Need-loc-of-requires-2
 loc-of-requires-2 c κs = search needs
@@ -66,9 +81,12 @@ loc-of-requires-2 c κs = search needs
 insert-both-requires : tie.Need-insert-both-requires
 unfolding joined
 insert-both-requires c κs =
-    let a = c .before .before .before .before .before .before .before .before .before .before in
-    let e = act (c .before .before .before .before .before .before .shape-of .ensures) (c .before .before .before .before .enum-told2 .given .1) in
-    rw (c .before .loc-of2 .ensures) (a .pre .0, (partner-below (a .args .t1) (ap isComplex e) (a .pre .1 .1 .0), (a .pre .1 .1 .1 .0, rw (e, c .before .before .before .if2 .left) at (a .pre .1 .1 .1 .1))))
+    let j = c .before .before .before in
+    let s = j .before .before .before in
+    let a = s .before .before .before .before in
+    let e = act (s .shape-of .ensures) (j .before .enum-told2 .given .1) in
+    let below = partner-below (a .args .t1) (ap isComplex e) (a .pre .1 .1 .0) in
+    rw (c .before .loc-of2 .ensures) (a .pre .0, (below, (a .pre .1 .1 .1 .0, rw (e, j .if2 .left) at (a .pre .1 .1 .1 .1))))
 
 enum-told-3 : tie.Need-enum-told-3
 enum-told-3 c = search needs
@@ -82,9 +100,11 @@ array-read-extend-2 c = search needs
 extend-requires : tie.Need-extend-requires
 unfolding joined
 extend-requires c κs =
-    let a = c .before .before .before .before .before .before .before .before in
-    let e = act (c .before .before .before .before .shape-of .ensures) (c .before .before .enum-told3 .given .1) in
-    (a .pre .0, (a .pre .1 .1 .1 .0, (args-inside (now (a .args .table)) (a .args .t1) (args-kind (wordAt (a .args .t1) 0) e) (a .pre .1 .0), rw e at (a .pre .1 .1 .1 .1))))
+    let s = c .before .before .before .before in
+    let a = start s in
+    let e = act (s .shape-of .ensures) (c .before .before .enum-told3 .given .1) in
+    let inside = args-inside (now (a .args .table)) (a .args .t1) (args-kind (wordAt (a .args .t1) 0) e) (a .pre .1 .0) in
+    (a .pre .0, (a .pre .1 .1 .1 .0, (inside, rw e at (a .pre .1 .1 .1 .1))))
 
 enum-told-4 : tie.Need-enum-told-4
 enum-told-4 c = search needs
@@ -92,8 +112,9 @@ enum-told-4 c = search needs
 returns-3 : tie.Need-returns-3
 unfolding joined
 returns-3 c =
-    let z : shapeFor (c .before .before .before .before .before .before .before .before .args .t1) .loc ≡ 0 = rw (c .before .before .before .before .shape-of .ensures) at (c .if3 .taken) in
-    rw (act (c .before .before .before .before .shape-of .ensures) (c .before .before .enum-told4 .given .1), z) (none (c .before .before .before .before .before .before .before .before))
+    let s = c .before .before .before .before in
+    let z : shapeFor (start s .args .t1) .loc ≡ 0 = rw (s .shape-of .ensures) at (c .if3 .taken) in
+    rw (act (s .shape-of .ensures) (c .before .before .enum-told4 .given .1), z) (none s)
 
 loc-of-requires-3 : tie.Need-loc-of-requires-3
 loc-of-requires-3 c κs = search needs
@@ -101,9 +122,12 @@ loc-of-requires-3 c κs = search needs
 insert-requires-2 : tie.Need-insert-requires-2
 unfolding joined
 insert-requires-2 c κs =
-    let a = c .before .before .before .before .before .before .before .before .before .before .before in
-    let z : eqb (shapeFor (a .args .t1) .loc) 0 ≡ false = ne-eqb _ _ (rw (c .before .before .before .before .before .before .before .shape-of .ensures) at (c .before .before .before .if3 .left)) in
-    rw (c .before .loc-of3 .ensures) (a .pre .0, (a .pre .1 .1 .1 .0, rw (act (c .before .before .before .before .before .before .before .shape-of .ensures) (c .before .before .before .before .before .enum-told4 .given .1), z) at (a .pre .1 .1 .1 .1)))
+    let j = c .before .before .before in
+    let s = j .before .before .before .before in
+    let a = start s in
+    let e = act (s .shape-of .ensures) (j .before .before .enum-told4 .given .1) in
+    let z : eqb (shapeFor (a .args .t1) .loc) 0 ≡ false = ne-eqb _ _ (rw (s .shape-of .ensures) at (j .if3 .left)) in
+    rw (c .before .loc-of3 .ensures) (a .pre .0, (a .pre .1 .1 .1 .0, rw (e, z) at (a .pre .1 .1 .1 .1)))
 
 enum-told-5 : tie.Need-enum-told-5
 enum-told-5 c = search needs
@@ -143,37 +167,51 @@ same-length-8 c = search needs
 
 returns-4 : tie.Need-returns-4
 unfolding joined
-returns-4 c = rw (act (c .before .before .before .before .before .before .before .before .before .before .before .shape-of .ensures) (c .before .before .before .before .before .before .before .before .before .enum-told .given .1), c .before .before .before .before .before .before .before .before .if1 .left, ← (c .before .before .before .before .before .before .loc-of .ensures)) (c .before .before .before .before .insert .ensures)
+returns-4 c =
+    let l = c .before .before .before .before .before .before in
+    let j = l .before .before in
+    let e = act (j .before .before .before .shape-of .ensures) (j .before .enum-told .given .1) in
+    rw (e, j .if1 .left, ← (l .loc-of .ensures)) (c .before .before .before .before .insert .ensures)
 
 returns-5 : tie.Need-returns-5
 unfolding joined
-returns-5 c = rw (act (c .before .before .before .before .before .before .before .before .before .before .before .shape-of .ensures) (c .before .before .before .before .before .before .before .before .before .enum-told2 .given .1), c .before .before .before .before .before .before .before .before .if2 .left) (rw (c .before .before .before .before .before .before .loc-of2 .ensures) at (c .before .before .before .before .insert-both .ensures))
+returns-5 c =
+    let l = c .before .before .before .before .before .before in
+    let j = l .before .before in
+    let e = act (j .before .before .before .shape-of .ensures) (j .before .enum-told2 .given .1) in
+    rw (e, j .if2 .left) (rw (l .loc-of2 .ensures) at (c .before .before .before .before .insert-both .ensures))
 
 returns-6 : tie.Need-returns-6
 unfolding joined
-returns-6 c = rw (act (c .before .before .before .before .before .before .before .before .before .shape-of .ensures) (c .before .before .before .before .before .before .before .enum-told3 .given .1)) (c .before .before .before .before .extend .ensures)
+returns-6 c =
+    let t = c .before .before .before .before .before .before .before in
+    rw (act (t .before .before .shape-of .ensures) (t .enum-told3 .given .1)) (c .before .before .before .before .extend .ensures)
 
 returns-7 : tie.Need-returns-7
 unfolding joined
 returns-7 c =
-    let z : eqb (shapeFor (c .before .before .before .before .before .before .before .before .before .before .before .before .before .before .before .before .args .t1) .loc) 0 ≡ false = ne-eqb _ _ (rw (c .before .before .before .before .before .before .before .before .before .before .before .before .shape-of .ensures) at (c .before .before .before .before .before .before .before .before .if3 .left)) in
-    rw (act (c .before .before .before .before .before .before .before .before .before .before .before .before .shape-of .ensures) (c .before .before .before .before .before .before .before .before .before .before .enum-told4 .given .1), z, ← (c .before .before .before .before .before .before .loc-of3 .ensures)) (c .before .before .before .before .insert2 .ensures)
+    let l = c .before .before .before .before .before .before in
+    let j = l .before .before in
+    let s = j .before .before .before .before in
+    let e = act (s .shape-of .ensures) (j .before .before .enum-told4 .given .1) in
+    let z : eqb (shapeFor (start s .args .t1) .loc) 0 ≡ false = ne-eqb _ _ (rw (s .shape-of .ensures) at (j .if3 .left)) in
+    rw (e, z, ← (l .loc-of3 .ensures)) (c .before .before .before .before .insert2 .ensures)
 
 returns-8 : tie.Need-returns-8
 unfolding joined
-returns-8 c = rw (act (c .before .before .shape-of .ensures) (c .enum-told5 .given .1)) (none (c .before .before .before .before .before .before))
+returns-8 c = rw (act (c .before .before .shape-of .ensures) (c .enum-told5 .given .1)) (none (c .before .before))
 
 returns-9 : tie.Need-returns-9
 unfolding joined
-returns-9 c = rw (act (c .before .before .shape-of .ensures) (c .enum-told6 .given .1)) (none (c .before .before .before .before .before .before))
+returns-9 c = rw (act (c .before .before .shape-of .ensures) (c .enum-told6 .given .1)) (none (c .before .before))
 
 returns-10 : tie.Need-returns-10
 unfolding joined
-returns-10 c = rw (act (c .before .before .shape-of .ensures) (c .enum-told7 .given .1)) (none (c .before .before .before .before .before .before))
+returns-10 c = rw (act (c .before .before .shape-of .ensures) (c .enum-told7 .given .1)) (none (c .before .before))
 
 returns-11 : tie.Need-returns-11
 unfolding joined
-returns-11 c = rw (act (c .before .before .shape-of .ensures) (c .enum-told8 .given .1)) (none (c .before .before .before .before .before .before))
+returns-11 c = rw (act (c .before .before .shape-of .ensures) (c .enum-told8 .given .1)) (none (c .before .before))
 
 pub read-record-spec : {M : Type 1} → statement M
 read-record-spec =

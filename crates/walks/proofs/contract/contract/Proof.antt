@@ -1,14 +1,15 @@
 -- `walks::contract::contract` meets its contract: before each record the output, the ends and the counts are the
 -- definitions', by what `Contracting` says of a record.
-use Prim.Native.Nat.{ℕ, _-_, _≤_}
+use Prim.Native.Nat.{ℕ, _+_, _*_, _/_, _-_, _<_, _≤_}
 use mathlib.Core.List.{List}
 use mathlib.Core.Path.{_≡_}
 use native.Mathlib.Omega.{arith}
+use lib.ListN.{length}
 use Rattle.mir.proofs.Renaming.{gens-two}
 use Rattle.mir.specs.Records.{fixedMark}
 use Rattle.mir.specs.declared.config.Settings.{Settings}
 use Rattle.walks.specs.Walks.{Passes, Colored}
-use Rattle.walks.proofs.contract.Invariant.{Contracting, contracting-first, contract-asks, contracting-next, contracted, ends-same, out-same}
+use Rattle.walks.proofs.contract.Invariant.{Call, Contracting, contracting-first, contract-asks, contracting-next, contracted, ends-same, out-same}
 use Rattle.walks.proofs.Registers.{Walked, walked-first, walked-next, few-words, gens-fit, few-statics}
 use borrow.Author.Needs.{needs}
 use Rattle.walks.proofs.contract.contract.Statement.{statement}
@@ -23,6 +24,27 @@ Inv-loop list colours ends₀ locs members out₀ seen count fixed regs₀ stati
 abbrev μ-loop : tie.MeasureT-loop
 μ-loop list colours ends₀ locs members out₀ seen count fixed regs₀ statics₀ tally₀ i₀ ends out regs statics tally i = count - i
 
+-- what the walk was called with, for any settings and table that the third walk's slices are of
+abbrev called : (a : tie.Start Inv-loop μ-loop) (s : Settings) (table : List ℕ)
+    → Colored s (a .args .list .now) table (a .args .colours .now) (a .args .ends .now) (a .args .locs .now) (a .args .members) → Call
+called a s table col =
+    record {
+      settings = s;
+      list = a .args .list .now;
+      table = table;
+      colours = a .args .colours .now;
+      ends = a .args .ends .now;
+      words = a .args .locs .now;
+      count = a .args .members;
+      colored = col;
+      out = a .args .out .now;
+      room-out = a .pre .1 .1;
+    }
+
+-- and for its own
+abbrev own : tie.Start Inv-loop μ-loop → Call
+own a = called a (a .args .settings) (a .pre .1 .0 .0) (a .pre .1 .0 .1)
+
 -- the list passes
 listed : (a : tie.Start Inv-loop μ-loop) → Passes (a .args .list .now)
 listed a = (a .args .settings, a .pre .1 .0 .0, a .pre .1 .0 .1 .passing)
@@ -33,77 +55,113 @@ fixed-requires c κs = search needs
 loop-holds : tie.Need-loop-holds Inv-loop μ-loop
 loop-holds c =
     let a = c .before .before .before .before .before .before .before in
-    (search needs, (walked-first (a .args .list .now), λ s table f col. contracting-first s (a .args .list .now) table (a .args .colours .now) (a .args .ends .now) (a .args .locs .now) (a .args .members) col (a .args .out .now) (a .pre .1 .1)))
+    (search needs, (walked-first (a .args .list .now), λ s table f col. contracting-first (called a s table col)))
 
 record-at-requires : tie.Need-record-at-requires Inv-loop μ-loop
 record-at-requires c κs = omega arith
 
+-- ---- one turn: the record, and then the calls in their order
+
+abbrev start : tie.At-loop Inv-loop μ-loop → tie.Start Inv-loop μ-loop
+start l = l .before .before .before .before .before .before .before .before
+
+abbrev turn : tie.After-record-at Inv-loop μ-loop → tie.At-loop Inv-loop μ-loop
+turn r = r .before .before
+
+abbrev recordOf : tie.After-contract-record Inv-loop μ-loop → tie.After-record-at Inv-loop μ-loop
+recordOf k = k .before .before .before
+
+-- what the loop keeps, of the walk's own settings and table
+abbrev kept : (l : tie.At-loop Inv-loop μ-loop) →
+    let g = own (start l) in
+    Contracting (g .settings) (g .list) (g .table) (g .ends) (g .out) (l .loop .i) (l .loop .ends) (l .loop .out) (l .loop .tally)
+kept l =
+    let a = start l in
+    l .loop .inv .1 .1 (a .args .settings) (a .pre .1 .0 .0) (l .before .fixed .ensures) (a .pre .1 .0 .1)
+
+module _ (r : tie.After-record-at Inv-loop μ-loop) where
+  abbrev a : tie.Start Inv-loop μ-loop
+  a = start (turn r)
+
+  abbrev list : List ℕ
+  list = a .args .list .now
+
+  abbrev i : ℕ
+  i = turn r .loop .i
+
+  abbrev in-list : i < length list / 8
+  in-list = r .before .loop-test .taken
+
+  words-few : length list ≤ 524288
+  words-few = few-words list (listed a) i in-list
+
+  statics-few : turn r .loop .statics + 2 ≤ (length list / 8) * 2
+  statics-few = few-statics list (listed a) i in-list (turn r .loop .inv .1 .0)
+
 cast-first : tie.Need-cast-first Inv-loop μ-loop
-cast-first c =
-    let a = c .before .before .before .before .before .before .before .before .before .before in
-    let b = c .before .before in
-    let t = c .before .loop-test .taken in
-    omega (arith, few-statics (a .args .list .now) (listed a) (b .loop .i) t (b .loop .inv .1 .0), few-words (a .args .list .now) (listed a) (b .loop .i) t)
+cast-first r = omega (arith, statics-few r, words-few r)
 
 contract-record-requires : tie.Need-contract-record-requires Inv-loop μ-loop
 contract-record-requires c κs =
-    let a = c .before .before .before .before .before .before .before .before .before .before .before .before in
-    let b = c .before .before .before .before in
-    (a .pre .0, contract-asks (a .args .settings) (a .args .list .now) (a .pre .1 .0 .0) (a .args .colours .now) (a .args .ends .now) (a .args .locs .now) (a .args .members) (a .pre .1 .0 .1) (a .args .out .now) (a .pre .1 .1) (b .loop .inv .1 .1 (a .args .settings) (a .pre .1 .0 .0) (c .before .before .before .before .before .fixed .ensures) (a .pre .1 .0 .1)) (c .before .before .before .loop-test .taken) (b .loop .inv .1 .0) (c .before .before .record-at .ensures))
+    let r = c .before .before in
+    (a r .pre .0, contract-asks (own (a r)) (kept (turn r)) (in-list r) (turn r .loop .inv .1 .0) (r .record-at .ensures))
 
 rename-requires : tie.Need-rename-requires Inv-loop μ-loop
 rename-requires c κs =
-    let a = c .before .before .before .before .before .before .before .before .before .before .before .before .before .before .before .before .before in
-    let b = c .before .before .before .before .before .before .before .before .before in
-    let t = c .before .before .before .before .before .before .before .before .loop-test .taken in
-    (gens-fit (a .args .list .now) (listed a) (b .loop .i) t (c .before .before .before .before .before .before .before .record-at .ensures), omega (arith, few-statics (a .args .list .now) (listed a) (b .loop .i) t (b .loop .inv .1 .0), few-words (a .args .list .now) (listed a) (b .loop .i) t))
+    let r = recordOf (c .before .before .before .before) in
+    (gens-fit (list r) (listed (a r)) (i r) (in-list r) (r .record-at .ensures), omega (arith, statics-few r, words-few r))
 
 count-statics-requires : tie.Need-count-statics-requires Inv-loop μ-loop
 count-statics-requires c κs = search needs
 
 add-statics : tie.Need-add-statics Inv-loop μ-loop
 add-statics c =
-    let a = c .before .before .before .before .before .before .before .before .before .before .before .before .before .before .before .before .before .before .before in
-    let b = c .before .before .before .before .before .before .before .before .before .before .before in
-    let t = c .before .before .before .before .before .before .before .before .before .before .loop-test .taken in
-    rw (c .count-statics .ensures) (omega (arith, few-statics (a .args .list .now) (listed a) (b .loop .i) t (b .loop .inv .1 .0), few-words (a .args .list .now) (listed a) (b .loop .i) t, gens-two (c .before .before .before .before .before .before .before .before .before .record-at .result)))
+    let r = recordOf (c .before .before .before .before .before .before) in
+    rw (c .count-statics .ensures) (omega (arith, statics-few r, words-few r, gens-two (r .record-at .result)))
 
 add-i : tie.Need-add-i Inv-loop μ-loop
 add-i c =
-    let a = c .before .before .before .before .before .before .before .before .before .before .before .before .before .before .before .before .before .before .before in
-    omega (arith, c .before .before .before .before .before .before .before .before .before .before .loop-test .taken, few-words (a .args .list .now) (listed a) (c .before .before .before .before .before .before .before .before .before .before .before .loop .i) (c .before .before .before .before .before .before .before .before .before .before .loop-test .taken))
+    let r = recordOf (c .before .before .before .before .before .before) in
+    omega (arith, in-list r, words-few r)
 
 loop-less : tie.Need-loop-less Inv-loop μ-loop
 loop-less c = search needs
 
 loop-again : tie.Need-loop-again Inv-loop μ-loop
 loop-again c =
-    let a = c .before .before .before .before .before .before .before .before .before .before .before .before .before .before .before .before .before .before .before in
-    let b = c .before .before .before .before .before .before .before .before .before .before .before in (
-      omega (arith, c .before .before .before .before .before .before .before .before .before .before .loop-test .taken),
+    let k = c .before .before .before .before .before .before in
+    let r = recordOf k in
+    let inv = turn r .loop .inv in
+    let e = r .record-at .ensures in
+    let q = k .contract-record .ensures in (
+      omega (arith, in-list r),
       (
-        walked-next (c .before .before .before .before .before .before .before .before .before .record-at .result) (b .loop .inv .1 .0) (c .before .before .before .before .before .before .before .before .before .record-at .ensures) (c .before .rename .ensures) (c .count-statics .ensures),
-        λ s table f col. contracting-next s (a .args .list .now) table (a .args .colours .now) (a .args .ends .now) (a .args .locs .now) (a .args .members) col (a .args .out .now) (a .pre .1 .1) (b .loop .inv .1 .1 s table f col) (c .before .before .before .before .before .before .before .before .before .before .loop-test .taken) (b .loop .inv .1 .0) (c .before .before .before .before .before .before .before .before .before .record-at .ensures) (c .before .before .before .before .before .before .before .before .before .before .before .before .fixed .result) f (c .before .before .before .before .before .before .contract-record .ensures .0) (c .before .before .before .before .before .before .contract-record .ensures .1 .0) (c .before .before .before .before .before .before .contract-record .ensures .1 .1),
+        walked-next (r .record-at .result) (inv .1 .0) e (c .before .rename .ensures) (c .count-statics .ensures),
+        λ s table f col.
+            contracting-next (called (a r) s table col) (inv .1 .1 s table f col) (in-list r) (inv .1 .0) e
+            (turn r .before .fixed .result) f (q .0) (q .1 .0) (q .1 .1),
       ),
     )
 
+-- ---- after the last turn
+
 same-length : tie.Need-same-length Inv-loop μ-loop
 same-length c =
-    let a = c .before .before .before .before .before .before .before .before .before in
-    let b = c .before in
-    ends-same (a .args .settings) (a .args .list .now) (a .pre .1 .0 .0) (a .args .colours .now) (a .args .ends .now) (a .args .locs .now) (a .args .members) (a .pre .1 .0 .1) (a .args .out .now) (a .pre .1 .1) (b .loop .inv .1 .1 (a .args .settings) (a .pre .1 .0 .0) (c .before .before .fixed .ensures) (a .pre .1 .0 .1)) (b .loop .inv .0)
+    let l = c .before in
+    ends-same (own (start l)) (kept l) (l .loop .inv .0)
 
 same-length-2 : tie.Need-same-length-2 Inv-loop μ-loop
 same-length-2 c =
-    let a = c .before .before .before .before .before .before .before .before .before in
-    let b = c .before in
-    out-same (a .args .settings) (a .args .list .now) (a .pre .1 .0 .0) (a .args .colours .now) (a .args .ends .now) (a .args .locs .now) (a .args .members) (a .pre .1 .0 .1) (a .args .out .now) (a .pre .1 .1) (b .loop .inv .1 .1 (a .args .settings) (a .pre .1 .0 .0) (c .before .before .fixed .ensures) (a .pre .1 .0 .1)) (b .loop .inv .0)
+    let l = c .before in
+    out-same (own (start l)) (kept l) (l .loop .inv .0)
 
 returns : tie.Need-returns Inv-loop μ-loop
 returns c =
-    let a = c .before .before .before .before .before .before .before .before .before in
-    let b = c .before in
-    λ table col. contracted (a .args .settings) (a .args .list .now) table (a .args .colours .now) (a .args .ends .now) (a .args .locs .now) (a .args .members) col (a .args .out .now) (a .pre .1 .1) (b .loop .inv .1 .1 (a .args .settings) table (c .before .before .fixed .ensures) col) (omega (arith, b .loop .inv .0, c .loop-test .left))
+    let l = c .before in
+    let s = start l .args .settings in
+    λ table col.
+    contracted (called (start l) s table col) (l .loop .inv .1 .1 s table (l .before .fixed .ensures) col)
+    (omega (arith, l .loop .inv .0, c .loop-test .left))
 
 pub contract-spec : {M : Type 1} → statement M
 contract-spec =

@@ -1,11 +1,13 @@
 -- `walks::contract::contract_record` meets its contract: the calls' equations, one put into the other.
 -- The record in colours has the kind and the location that it had.
-use Prim.Native.Nat.{_*_}
+use Prim.Native.Nat.{ℕ, _*_}
 use mathlib.Core.Bool.{cond}
-use mathlib.Core.List.{_++_}
+use mathlib.Core.List.{List, _++_}
 use mathlib.Core.Path.{_≡_, ap, _∙_}
 use lib.ListN.{take, drop}
 use Rattle.mir.specs.Shapes.{dests}
+use Rattle.passes.specs.declared.alloc.Outcome.{Outcome}
+use Rattle.passes.specs.declared.symbol.Loc.{Loc}
 use Rattle.passes.specs.Color.{pairsFrom}
 use Rattle.passes.specs.Contract.{isKept, outcomeOf}
 use Rattle.mir.specs.Answers.{over}
@@ -14,6 +16,10 @@ use Rattle.walks.proofs.contract.Partner.{written-partner}
 use borrow.Author.Needs.{needs}
 use Rattle.walks.proofs.contract.contract_record.Statement.{statement}
 use Rattle.walks.proofs.contract.contract_record.Tie as tie
+
+-- the call
+abbrev start : tie.After-rewrite → tie.Start
+start w = w .before .before .before .before .before .before .before .before .before .before .before .before
 
 was-found-requires : tie.Need-was-found-requires
 was-found-requires c κs = search needs
@@ -26,8 +32,10 @@ rewrite-requires c κs = search needs
 
 outcome-of-requires : tie.Need-outcome-of-requires
 outcome-of-requires c κs =
-    let a = c .before .before .before .before .before .before .before .before .before .before .before .before in
-    (a .pre .0, (rw (c .rewrite .ensures) (written-partner (a .args .regs) (a .args .next) (a .args .colours .now) (a .args .rec) (a .good .0 .1 .0 .1) (a .pre .1 .1 .0)), a .pre .1 .1 .1 .1 .1 .1 .0))
+    let a = start c in
+    let p = a .pre .1 .1 in
+    let e = written-partner (a .args .regs) (a .args .next) (a .args .colours .now) (a .args .rec) (a .good .0 .1 .0 .1) (p .0) in
+    (a .pre .0, (rw (c .rewrite .ensures) e, p .1 .1 .1 .1 .0))
 
 cast-keep : tie.Need-cast-keep
 cast-keep c = search needs
@@ -36,10 +44,10 @@ mul-keep : tie.Need-mul-keep
 mul-keep c = search needs
 
 keep-requires : tie.Need-keep-requires
-keep-requires c κs = c .before .before .before .before .before .before .before .before .before .before .before .before .before .before .before .pre .1 .1 .1 .1 .1 .1 .1 .1
+keep-requires c κs = start (c .before .before .before) .pre .1 .1 .1 .1 .1 .1 .1 .1
 
 add-outcome-requires : tie.Need-add-outcome-requires
-add-outcome-requires c κs = c .before .before .before .before .before .before .before .before .before .before .before .before .before .before .before .before .before .before .pre .1 .1 .1 .1 .1 .1 .1 .0
+add-outcome-requires c κs = start (c .before .before .before .before .before .before) .pre .1 .1 .1 .1 .1 .1 .1 .0
 
 same-length : tie.Need-same-length
 same-length c = search needs
@@ -47,23 +55,39 @@ same-length c = search needs
 same-length-2 : tie.Need-same-length-2
 same-length-2 c = search needs
 
--- what becomes of the record, by what the calls gave
-outcome-is : (c : tie.After-add-outcome) → c .before .before .before .before .before .before .outcome-of .result ≡ outcomeIn (c .before .before .before .before .before .before .before .before .before .before .before .before .before .before .before .before .before .before .before .args .fixed) (pairsFrom (c .before .before .before .before .before .before .before .before .before .before .before .before .before .before .before .before .before .before .before .args .locs .now) 0 (c .before .before .before .before .before .before .before .before .before .before .before .before .before .before .before .before .before .before .before .args .members)) (c .before .before .before .before .before .before .before .before .before .before .before .before .before .before .before .before .before .before .before .args .regs) (c .before .before .before .before .before .before .before .before .before .before .before .before .before .before .before .before .before .before .before .args .next) (c .before .before .before .before .before .before .before .before .before .before .before .before .before .before .before .before .before .before .before .args .colours .now) (c .before .before .before .before .before .before .before .before .before .before .before .before .before .before .before .before .before .before .before .args .ends .now) (c .before .before .before .before .before .before .before .before .before .before .before .before .before .before .before .before .before .before .before .args .rec)
-outcome-is c =
-    let a = c .before .before .before .before .before .before .before .before .before .before .before .before .before .before .before .before .before .before .before in
-    c .before .before .before .before .before .before .outcome-of .ensures
-    ∙ (ap (λ f. outcomeOf (a .args .fixed) (pairsFrom (a .args .locs .now) 0 (a .args .members)) f (c .before .before .before .before .before .before .before .rewrite .result)) (c .before .before .before .before .before .before .before .before .before .before .before .before .was-found .ensures)
-    ∙ ap (outcomeOf (a .args .fixed) (pairsFrom (a .args .locs .now) 0 (a .args .members)) (wasFound (dests (a .args .rec)) (a .args .next) (a .args .ends .now))) (c .before .before .before .before .before .before .before .rewrite .ensures))
+-- what becomes of the record, by the definition and by what the calls gave
+abbrev membersIn : tie.Start → List Loc
+membersIn a = pairsFrom (a .args .locs .now) 0 (a .args .members)
+
+abbrev outcome : tie.Start → Outcome
+outcome a = outcomeIn (a .args .fixed) (membersIn a) (a .args .regs) (a .args .next) (a .args .colours .now) (a .args .ends .now) (a .args .rec)
+
+outcome-is : (o : tie.After-outcome-of) → o .outcome-of .result ≡ outcome (start (o .before))
+outcome-is o =
+    let w = o .before in
+    let a = start w in
+    let outcome-by = outcomeOf (a .args .fixed) (membersIn a) in
+    o .outcome-of .ensures
+    ∙ (ap (λ f. outcome-by f (w .rewrite .result)) (w .before .before .before .before .before .was-found .ensures)
+    ∙ ap (outcome-by (wasFound (dests (a .args .rec)) (a .args .next) (a .args .ends .now))) (w .rewrite .ensures))
+
+-- the output, the record being put after the first ones
+abbrev put : tie.Start → List ℕ → List ℕ
+put a w =
+    let at = a .args .tally .records * 8 in
+    take at (a .args .out .now) ++ over w (drop at (a .args .out .now))
 
 returns : tie.Need-returns
 returns c =
-    let a = c .before .before .before .before .before .before .before .before .before .before .before .before .before .before .before .before .before .before .before in (
-      c .add-outcome .ensures ∙ ap (λ f. tallied f (a .args .tally)) (outcome-is c),
+    let o = c .before .before .before .before .before .before in
+    let w = o .before in
+    let a = start w in (
+      c .add-outcome .ensures ∙ ap (λ f. tallied f (a .args .tally)) (outcome-is o),
       (
-        c .before .before .before .before .before .before .before .before .before .before .unmark .ensures,
+        w .before .before .before .unmark .ensures,
         c .before .before .before .keep .ensures
-            ∙ (ap (λ f. cond (isKept f) (take (a .args .tally .records * 8) (a .args .out .now) ++ over (c .before .before .before .before .before .before .before .rewrite .result) (drop (a .args .tally .records * 8) (a .args .out .now))) (a .args .out .now)) (outcome-is c)
-            ∙ ap (λ w. cond (isKept (outcomeIn (a .args .fixed) (pairsFrom (a .args .locs .now) 0 (a .args .members)) (a .args .regs) (a .args .next) (a .args .colours .now) (a .args .ends .now) (a .args .rec))) (take (a .args .tally .records * 8) (a .args .out .now) ++ over w (drop (a .args .tally .records * 8) (a .args .out .now))) (a .args .out .now)) (c .before .before .before .before .before .before .before .rewrite .ensures)),
+            ∙ (ap (λ f. cond (isKept f) (put a (w .rewrite .result)) (a .args .out .now)) (outcome-is o)
+            ∙ ap (λ v. cond (isKept (outcome a)) (put a v) (a .args .out .now)) (w .rewrite .ensures)),
       ),
     )
 

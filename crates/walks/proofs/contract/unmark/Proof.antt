@@ -1,12 +1,20 @@
 -- `walks::contract::unmark` meets its contract: x is unmarked before y.
-use mathlib.Core.Path.{sym, ap, _∙_}
+use mathlib.Core.List.{[], _∷_}
+use mathlib.Core.Path.{_≡_}
 use native.Mathlib.Omega.{arith}
 use Rattle.walks.specs.Walks.{unmarked}
-use Rattle.mir.specs.Inner.{listed}
+use Rattle.mir.specs.Shapes.{dests}
 use Rattle.mir.proofs.Renaming.{one-le}
+use Rattle.mir.proofs.Shapes.{dests-told}
 use borrow.Author.Needs.{needs}
 use Rattle.walks.proofs.contract.unmark.Statement.{statement}
 use Rattle.walks.proofs.contract.unmark.Tie as tie
+
+one : (x : tie.After-x) → dests (x .before .before .before .before .args .rec) ≡ x .x .given .0 .0 ∷ []
+one x = dests-told (x .before .before .dests-of .ensures) (x .x .given .1)
+
+two : (x : tie.After-x2) → dests (x .before .before .before .before .args .rec) ≡ x .x2 .given .0 .0 ∷ x .x2 .given .0 .1 .0 ∷ []
+two x = dests-told (x .before .before .dests-of .ensures) (x .x2 .given .1)
 
 dests-of-requires : tie.Need-dests-of-requires
 dests-of-requires c κs = search needs
@@ -16,7 +24,7 @@ enum-told c = search needs
 
 returns : tie.Need-returns
 unfolding unmarked
-returns c = rw (sym (c .before .before .dests-of .ensures) ∙ ap listed (c .enum-told .given .1))
+returns c = rw (dests-told (c .before .before .dests-of .ensures) (c .enum-told .given .1))
 
 enum-known-x : tie.Need-enum-known-x
 enum-known-x c = search needs
@@ -40,21 +48,27 @@ add-after : tie.Need-add-after
 add-after c = search needs
 
 unmark-static-requires-3 : tie.Need-unmark-static-requires-3
-unmark-static-requires-3 c κs = omega (arith, one-le (c .before .before .before .before .before .before .before .x2 .given .0 .0), c .before .count-static .ensures, c .before .before .before .before .unmark-static2 .kept .1 .1 .0, c .before .before .before .before .before .before .before .before .before .before .before .pre)
+unmark-static-requires-3 c κs =
+    let k = c .before .before .before .before in
+    let x = k .before .before .before in
+    omega (arith, one-le (x .x2 .given .0 .0), c .before .count-static .ensures, k .unmark-static2 .kept .1 .1 .0, x .before .before .before .before .pre)
 
 same-length : tie.Need-same-length
 same-length c = search needs
 
 returns-2 : tie.Need-returns-2
 unfolding unmarked
-returns-2 c = rw (sym (c .before .before .before .before .before .before .before .dests-of .ensures) ∙ ap listed (c .before .before .before .before .before .x .given .1)) (c .before .before .unmark-static .ensures)
+returns-2 c = rw (one (c .before .before .before .before .before)) (c .before .before .unmark-static .ensures)
 
 same-length-2 : tie.Need-same-length-2
 same-length-2 c = search needs
 
 returns-3 : tie.Need-returns-3
 unfolding unmarked
-returns-3 c = rw (sym (c .before .before .before .before .before .before .before .before .before .before .before .before .dests-of .ensures) ∙ ap listed (c .before .before .before .before .before .before .before .before .before .before .x2 .given .1), ← (c .before .before .before .before .before .before .before .unmark-static2 .ensures), ← (c .before .before .before .before .count-static .ensures)) (c .before .before .unmark-static3 .ensures)
+returns-3 c =
+    let n = c .before .before .before .before in
+    let k = n .before .before .before in
+    rw (two (k .before .before .before), ← (k .unmark-static2 .ensures), ← (n .count-static .ensures)) (c .before .before .unmark-static3 .ensures)
 
 pub unmark-spec : {M : Type 1} → statement M
 unmark-spec =

@@ -1,6 +1,7 @@
 -- `walks::create::create` meets its contract: after each record the slice starts with the ends so far.
 -- Beside the renaming that every walk keeps, by the law `ends-next`.
-use Prim.Native.Nat.{_/_, _-_, _≤_}
+use Prim.Native.Nat.{ℕ, _+_, _*_, _/_, _-_, _<_, _≤_}
+use mathlib.Core.List.{List}
 use mathlib.Core.Path.{_≡_, refl, ap, _∙_}
 use native.Mathlib.Omega.{arith}
 use lib.ListN.{length}
@@ -23,12 +24,17 @@ Inv-loop list ends₀ n regs₀ statics₀ i₀ ends regs statics i = (i ≤ n) 
 abbrev μ-loop : tie.MeasureT-loop
 μ-loop list ends₀ n regs₀ statics₀ i₀ ends regs statics i = n - i
 
+abbrev start : tie.At-loop Inv-loop μ-loop → tie.Start Inv-loop μ-loop
+start l = l .before .before .before
+
 -- the slice is as long as it was
-same : (c : tie.At-loop Inv-loop μ-loop) → c .loop .i ≤ length (c .before .before .before .args .list .now) / 8 → length (c .loop .ends) ≡ length (c .before .before .before .args .ends .now)
-same c h =
-    let a = c .before .before .before in
-    ap length (c .loop .inv .2)
-    ∙ over-length (endsTo (a .args .list .now) (c .loop .i)) (a .args .ends .now) (rw (ends-length (a .args .list .now) (c .loop .i)) (omega (arith, statics-two (a .args .list .now) (c .loop .i), a .pre .1)))
+same : (l : tie.At-loop Inv-loop μ-loop) → l .loop .i ≤ length (start l .args .list .now) / 8
+    → length (l .loop .ends) ≡ length (start l .args .ends .now)
+same l h =
+    let list = start l .args .list .now in
+    let i = l .loop .i in
+    let fits : length (endsTo list i) ≤ length (start l .args .ends .now) = rw (ends-length list i) (omega (arith, statics-two list i, start l .pre .1)) in
+    ap length (l .loop .inv .2) ∙ over-length (endsTo list i) (start l .args .ends .now) fits
 
 loop-holds : tie.Need-loop-holds Inv-loop μ-loop
 unfolding endsTo
@@ -37,52 +43,75 @@ loop-holds c = (search needs, walked-first _, refl)
 record-at-requires : tie.Need-record-at-requires Inv-loop μ-loop
 record-at-requires c κs = omega arith
 
+-- ---- one turn: the record, and then the calls in their order
+
+abbrev turn : tie.After-record-at Inv-loop μ-loop → tie.At-loop Inv-loop μ-loop
+turn r = r .before .before
+
+abbrev consuming : tie.After-create-statics Inv-loop μ-loop → tie.After-consume-sources Inv-loop μ-loop
+consuming k = k .before .before .before .before
+
+abbrev recordOf : tie.After-consume-sources Inv-loop μ-loop → tie.After-record-at Inv-loop μ-loop
+recordOf k = k .before .before
+
+module _ (r : tie.After-record-at Inv-loop μ-loop) where
+  abbrev a : tie.Start Inv-loop μ-loop
+  a = start (turn r)
+
+  abbrev list : List ℕ
+  list = a .args .list .now
+
+  abbrev i : ℕ
+  i = turn r .loop .i
+
+  abbrev in-list : i < length list / 8
+  in-list = r .before .loop-test .taken
+
+  words-few : length list ≤ 524288
+  words-few = few-words list (a .pre .0) i in-list
+
+  statics-few : turn r .loop .statics + 2 ≤ (length list / 8) * 2
+  statics-few = few-statics list (a .pre .0) i in-list (turn r .loop .inv .1)
+
 cast-consume-sources : tie.Need-cast-consume-sources Inv-loop μ-loop
-cast-consume-sources c = omega (arith, few-words (c .before .before .before .before .before .args .list .now) (c .before .before .before .before .before .pre .0) (c .before .before .loop .i) (c .before .loop-test .taken))
+cast-consume-sources r = omega (arith, in-list r, words-few r)
 
 consume-sources-requires : tie.Need-consume-sources-requires Inv-loop μ-loop
 consume-sources-requires c κs =
-    let b = c .before .before .before in
-    let a = c .before .before .before .before .before .before in
-    let t = c .before .before .loop-test .taken in
-    let f = few-statics (a .args .list .now) (a .pre .0) (b .loop .i) t (b .loop .inv .1) in
-    (gens-fit (a .args .list .now) (a .pre .0) (b .loop .i) t (c .before .record-at .ensures), walked-known (b .loop .inv .1) (omega (arith, f, a .pre .1, same b (b .loop .inv .0))))
+    let r = c .before in
+    let inv = turn r .loop .inv in (
+      gens-fit (list r) (a r .pre .0) (i r) (in-list r) (r .record-at .ensures),
+      walked-known (inv .1) (omega (arith, statics-few r, a r .pre .1, same (turn r) (inv .0))),
+    )
 
 cast-create-statics : tie.Need-cast-create-statics Inv-loop μ-loop
-cast-create-statics c = omega (arith, few-words (c .before .before .before .before .before .before .before .before .before .args .list .now) (c .before .before .before .before .before .before .before .before .before .pre .0) (c .before .before .before .before .before .before .loop .i) (c .before .before .before .before .before .loop-test .taken))
+cast-create-statics c =
+    let r = c .before .before .before .before in
+    omega (arith, in-list r, words-few r)
 
 cast-create-statics-2 : tie.Need-cast-create-statics-2 Inv-loop μ-loop
 cast-create-statics-2 c =
-    let b = c .before .before .before .before .before .before in
-    let a = c .before .before .before .before .before .before .before .before .before in
-    let t = c .before .before .before .before .before .loop-test .taken in
-    omega (arith, few-statics (a .args .list .now) (a .pre .0) (b .loop .i) t (b .loop .inv .1), few-words (a .args .list .now) (a .pre .0) (b .loop .i) t)
+    let r = c .before .before .before .before in
+    omega (arith, statics-few r, words-few r)
 
 create-statics-requires : tie.Need-create-statics-requires Inv-loop μ-loop
 create-statics-requires c κs =
-    let b = c .before .before .before .before .before .before .before in
-    let a = c .before .before .before .before .before .before .before .before .before .before in
-    let f = few-statics (a .args .list .now) (a .pre .0) (b .loop .i) (c .before .before .before .before .before .before .loop-test .taken) (b .loop .inv .1) in
-    omega (arith, f, a .pre .1, same b (b .loop .inv .0), c .before .before .before .consume-sources .kept .1 .1 .1 .0)
+    let k = c .before .before .before in
+    let r = recordOf k in
+    omega (arith, statics-few r, a r .pre .1, same (turn r) (turn r .loop .inv .0), k .consume-sources .kept .1 .1 .1 .0)
 
 rename-requires : tie.Need-rename-requires Inv-loop μ-loop
 rename-requires c κs =
-    let b = c .before .before .before .before .before .before .before .before .before .before in
-    let a = c .before .before .before .before .before .before .before .before .before .before .before .before .before in
-    let t = c .before .before .before .before .before .before .before .before .before .loop-test .taken in
-    let f = few-statics (a .args .list .now) (a .pre .0) (b .loop .i) t (b .loop .inv .1) in
-    (gens-fit (a .args .list .now) (a .pre .0) (b .loop .i) t (c .before .before .before .before .before .before .before .before .record-at .ensures), omega (arith, f, few-words (a .args .list .now) (a .pre .0) (b .loop .i) t))
+    let r = recordOf (consuming (c .before .before)) in
+    (gens-fit (list r) (a r .pre .0) (i r) (in-list r) (r .record-at .ensures), omega (arith, statics-few r, words-few r))
 
 count-statics-requires : tie.Need-count-statics-requires Inv-loop μ-loop
 count-statics-requires c κs = search needs
 
 add-statics : tie.Need-add-statics Inv-loop μ-loop
 add-statics c =
-    let b = c .before .before .before .before .before .before .before .before .before .before .before .before in
-    let a = c .before .before .before .before .before .before .before .before .before .before .before .before .before .before .before in
-    let t = c .before .before .before .before .before .before .before .before .before .before .before .loop-test .taken in
-    let f = few-statics (a .args .list .now) (a .pre .0) (b .loop .i) t (b .loop .inv .1) in
-    rw (c .count-statics .ensures) (omega (arith, f, few-words (a .args .list .now) (a .pre .0) (b .loop .i) t, gens-two (c .before .before .before .before .before .before .before .before .before .before .record-at .result)))
+    let r = recordOf (consuming (c .before .before .before .before)) in
+    rw (c .count-statics .ensures) (omega (arith, statics-few r, words-few r, gens-two (r .record-at .result)))
 
 add-i : tie.Need-add-i Inv-loop μ-loop
 add-i c = search needs
@@ -92,19 +121,23 @@ loop-less c = search needs
 
 loop-again : tie.Need-loop-again Inv-loop μ-loop
 loop-again c =
-    let b = c .before .before .before .before .before .before .before .before .before .before .before .before in
-    let a = c .before .before .before .before .before .before .before .before .before .before .before .before .before .before .before in
-    let f = few-statics (a .args .list .now) (a .pre .0) (b .loop .i) (c .before .before .before .before .before .before .before .before .before .before .before .loop-test .taken) (b .loop .inv .1) in
-    let r = c .before .before .before .before .before .before .before .before .before .before .record-at .ensures in
-    let w = b .loop .inv .1 in
-    let L = a .args .list .now in
-    let E = a .args .ends .now in (
+    let m = c .before .before .before .before in
+    let k = m .before .before .before .before in
+    let r = k .before .before in
+    let l = r .before .before in
+    let b = l .before .before .before in
+    let w = l .loop .inv .1 in
+    let e = r .record-at .ensures in
+    let read = k .consume-sources .ensures ∙ ap (consumed (l .loop .regs) (l .loop .i) (sources (r .record-at .result))) (l .loop .inv .2) in
+    let few = statics-few r in (
       search needs,
-      walked-next (c .before .before .before .before .before .before .before .before .before .before .record-at .result) w r (c .before .rename .ensures) (c .count-statics .ensures),
-      c .before .before .before .before .create-statics .ensures
-          ∙ (ap (created (dests (c .before .before .before .before .before .before .before .before .before .before .record-at .result)) (b .loop .statics) (b .loop .i)) (c .before .before .before .before .before .before .before .before .consume-sources .ensures ∙ ap (consumed (b .loop .regs) (b .loop .i) (sources (c .before .before .before .before .before .before .before .before .before .before .record-at .result))) (b .loop .inv .2))
-          ∙ rw (r, w .regs-are, w .statics-are) (ends-next L (b .loop .i) E (omega (arith, f, a .pre .1, w .statics-are)))),
+      walked-next (r .record-at .result) w e (c .before .rename .ensures) (c .count-statics .ensures),
+      m .create-statics .ensures
+          ∙ (ap (created (dests (r .record-at .result)) (l .loop .statics) (l .loop .i)) read
+          ∙ rw (e, w .regs-are, w .statics-are) (ends-next (b .args .list .now) (l .loop .i) (b .args .ends .now) (omega (arith, few, b .pre .1, w .statics-are)))),
     )
+
+-- ---- after the last turn
 
 same-length : tie.Need-same-length Inv-loop μ-loop
 same-length c = same (c .before) (c .before .loop .inv .0)
@@ -112,10 +145,9 @@ same-length c = same (c .before) (c .before .loop .inv .0)
 returns : tie.Need-returns Inv-loop μ-loop
 unfolding endsOf
 returns c =
-    let b = c .before in
-    let a = c .before .before .before .before in
-    let e : b .loop .i ≡ length (a .args .list .now) / 8 = omega arith in
-    rw e at (b .loop .inv .2)
+    let l = c .before in
+    let e : l .loop .i ≡ length (start l .args .list .now) / 8 = omega arith in
+    rw e at (l .loop .inv .2)
 
 pub create-spec : {M : Type 1} → statement M
 create-spec =
