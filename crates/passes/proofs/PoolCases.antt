@@ -8,8 +8,9 @@ use mathlib.Core.Logic.{inl, inr}
 use mathlib.Core.Path.{_≡_, refl}
 use native.Mathlib.Omega.{arith}
 use Rattle.mir.proofs.Clash.{clash}
+use Rattle.passes.specs.declared.alloc.Held.{Held}
 use Rattle.passes.specs.declared.alloc.Held.the-variants.{Nothing, At}
-use Rattle.passes.specs.Color.{Coloring, loc, alloc, isFree, firstBelow, plainChoice, choose, HasPool}
+use Rattle.passes.specs.Color.{Coloring, loc, alloc, isFree, firstBelow, plainChoice, choose, choiceFor, isFound, HasPool}
 
 -- two colours, needed up to 4 and up to 5; the second holds Mem 7
 abbrev both : Coloring
@@ -26,14 +27,17 @@ needed zero below free = clash (cc)
 needed (suc zero) below free = clash (cc)
 needed (suc (suc c)) below free = absurd (omega arith)
 
+-- a choice that is not found has no pool at 3
+no-pool : (h : Held) → (isFound (choiceFor 2 3 h both) ≡ true → ⊥) → HasPool 2 3 h both → ⊥
+no-pool h lost (inl f) = lost f
+no-pool h lost (inr p) = needed (p .0) (p .1) (p .2)
+
 pub pool-cases : PoolCases
 unfolding firstBelow plainChoice choose
-pool-cases = record { none = no-pool; one = inr (0, omega arith, refl); found = inl refl; not-found = no-pool-for }
-  where
-    no-pool : HasPool 2 3 Nothing both → ⊥
-    no-pool (inl f) = clash (cc)
-    no-pool (inr p) = needed (p .0) (p .1) (p .2)
-
-    no-pool-for : HasPool 2 3 (At (loc 1 8)) both → ⊥
-    no-pool-for (inl f) = clash (cc)
-    no-pool-for (inr p) = needed (p .0) (p .1) (p .2)
+pool-cases =
+    record {
+      none = no-pool Nothing (λ f. clash (cc));
+      one = inr (0, omega arith, refl);
+      found = inl refl;
+      not-found = no-pool (At (loc 1 8)) (λ f. clash (cc));
+    }

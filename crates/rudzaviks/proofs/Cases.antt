@@ -2,7 +2,7 @@
 -- an output that is just long enough, short by one and long by one.
 -- By computation; the largest counts by rewriting.
 use Prim.Native.Nat.{ℕ}
-use mathlib.Core.Bool.{Bool, true, false}
+use mathlib.Core.Bool.{true, false}
 use mathlib.Core.List.{List, [], _∷_}
 use mathlib.Core.Path.{_≡_, refl}
 use lib.ListN.{length, replicate}
