@@ -11,7 +11,8 @@
  * are 0 if none did. A refusal is 2^32 x number + index: bits 0 to 31 hold the index of the record that was refused, 0
  * with questions 1 to 4. It changes nothing that was lent.
  *
- * Stack that a call takes at most, in bytes beyond the caller's frame, whatever the list is; measured, and held by a test:
+ * Stack that a call takes at most, in bytes beyond the caller's frame; not proved, but measured on lists of all kinds, and held
+ * by a test:
  *
  *   rudzaviks_used_registers, rudzaviks_populate_labels    1,024
  *   rudzaviks_optimize, the list being refused             2,048
