@@ -155,10 +155,10 @@ fn beside_the_passes() {
     let mut word = 0;
     let used = &mut || word = used_registers_word(&words, &table, 32, 0);
     takes("used_registers", 0, BESIDE, used);
-    assert_eq!(word >> 32 & 0xff_ffff, 0);
+    assert_eq!((word >> 32) & 0xff_ffff, 0);
     let labels = &mut || word = populate_labels_word(&words, &table, 32, 0);
     takes("populate_labels", 0, BESIDE, labels);
-    assert_eq!(word >> 32 & 0xff_ffff, 0);
+    assert_eq!((word >> 32) & 0xff_ffff, 0);
 }
 
 /// With thousands apart, as the documents write it.
