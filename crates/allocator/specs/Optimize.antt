@@ -12,7 +12,7 @@ use Rattle.mir.specs.Answers.{Report, answered, refused, unless, over}
 use Rattle.mir.specs.Questions.{refusal}
 use Rattle.passes.specs.Contract.{reduced, coloursOf, membersOf, wordsOf, countsOf}
 use Rattle.passes.specs.Create.{endsOf}
-use Rattle.passes.specs.Machine.{Meaning, State, run, AllScalar, EndsEqual}
+use Rattle.passes.specs.Machine.{AllScalar, RunsEqual}
 use Rattle.allocator.specs.declared.Answer.{Answer}
 use Rattle.allocator.specs.declared.Answer.the-variants.{Reduced, Refused}
 use Rattle.walks.specs.Lent.{Lent, valuesIn}
@@ -59,5 +59,4 @@ pub record Optimized (s : Settings) (list table : List ℕ) (held now : Lent) (g
   pub preserved :
       verdictOf s list table held ≡ verdict.Passed
       → AllScalar list
-      → (m : Meaning) (start : State)
-      → EndsEqual s (run m list start) (run m (take (recordsIn (report given) * 8) (now .out)) start)
+      → RunsEqual s list (take (recordsIn (report given) * 8) (now .out))

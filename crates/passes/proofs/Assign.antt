@@ -18,7 +18,7 @@ use Rattle.passes.specs.declared.alloc.Held.{Held}
 use Rattle.passes.specs.declared.alloc.Held.the-variants.{Nothing, At}
 use Rattle.passes.specs.declared.symbol.Loc.{Loc}
 use Rattle.passes.specs.Color.{alloc, colourAt, assign}
-use Rattle.passes.specs.Machine.{Word, State, write}
+use Rattle.passes.specs.Machine.{State, write}
 use Rattle.passes.proofs.Create.{Names}
 use Rattle.passes.proofs.Sim.{Sim, Assigned, into-gen}
 use Rattle.passes.proofs.Update.{upd, upd-at, upd-else, same-or}
@@ -34,7 +34,7 @@ abbrev pub heldIn : List Alloc → ℕ → Held
 heldIn allocs c = colourAt allocs c .loc
 
 -- the simulation over the lists
-abbrev pub SimIn : (n : ℕ) → List ℕ → (ℕ → ℕ → Type 0) → ℕ → List Current → List ℕ → List Alloc → State → State → Type 0
+abbrev pub SimIn : {Value : Type 0} (n : ℕ) → List ℕ → (ℕ → ℕ → Type 0) → ℕ → List Current → List ℕ → List Alloc → State Value → State Value → Type 0
 SimIn n E Seen i regs colours allocs A B = Sim n (numberIn E) Seen i (staticIn regs) (numberIn colours) (heldIn allocs) A B
 
 -- the colour of a register's static is one of the n, and lives as long as the static
@@ -58,7 +58,7 @@ holds-inside regs r t e = go (decLt r (length regs))
 
 -- Gen register d gets the next static, in colour c; v is what it is given, and B′ the reduced run's state then: it has v in
 -- c and nothing else new. Either c was free, or v was there already
-pub record Gets (n i : ℕ) (regs : List Current) (allocs : List Alloc) (A B B′ : State) (d c : ℕ) (h : Held) (v : Word) : Type 0 where
+pub record Gets {Value : Type 0} (n i : ℕ) (regs : List Current) (allocs : List Alloc) (A B B′ : State Value) (d c : ℕ) (h : Held) (v : Value) : Type 0 where
   pub gen : d < n
   pub colour : c < n
   pub few : n ≤ 256
@@ -71,7 +71,7 @@ pub record Gets (n i : ℕ) (regs : List Current) (allocs : List Alloc) (A B B�
   pub holds : (l : Loc) → h ≡ At l → v ≡ A .cell (l .space) (l .index)
 
 -- the destination of record i, the runs agreeing before it (j is i), or after another destination (j is suc i)
-module _ {n j i : ℕ} {E : List ℕ} {Seen : ℕ → ℕ → Type 0} {regs : List Current} {colours : List ℕ} {allocs : List Alloc} {A B B′ : State} {d c : ℕ} {h : Held} {v : Word}
+module _ {Value : Type 0} {n j i : ℕ} {E : List ℕ} {Seen : ℕ → ℕ → Type 0} {regs : List Current} {colours : List ℕ} {allocs : List Alloc} {A B B′ : State Value} {d c : ℕ} {h : Held} {v : Value}
     (early : j ≤ suc i) (names : Names regs (length colours)) (live : Live n E regs colours allocs) (sim : SimIn n E Seen j regs colours allocs A B)
     (g : Gets n i regs allocs A B B′ d c h v) where
   m : ℕ

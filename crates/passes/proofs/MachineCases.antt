@@ -1,10 +1,10 @@
 -- The plain machine on small lists, at least one for each kind that it runs, with the words that it must leave; what a word
--- is; which lists demand 3 is about; and which differences `EndsEqual` tells, and which not.
+-- is, and which words are true; which lists demand 3 is about; and which differences `EndsEqual` tells, and which not.
 -- The lists by computation: each place starts with a word of its own, and an operation's word shows its operands in order.
 use Prim.Native.Nat.{ℕ, _+_, _-_, _*_, _%_, _<_, _≤_}
 use mathlib.Core.Bool.{Bool, true, false, cond}
 use mathlib.Core.List.{List, [], _∷_, map}
-use mathlib.Core.Path.{_≡_, refl, _∙_}
+use mathlib.Core.Path.{_≡_, refl, ap, _∙_}
 use native.Mathlib.Nat.{mod-lt}
 use native.Mathlib.Omega.{arith}
 use lib.Dec.{eqb, ltb}
@@ -14,7 +14,8 @@ use Rattle.mir.specs.Folds.{allBelow}
 use Rattle.mir.specs.Records.{recordAt, fixedMark}
 use Rattle.mir.proofs.Clash.{clash}
 use Rattle.mir.proofs.Records.{flat}
-use Rattle.passes.specs.Machine.{Word, Meaning, State, write, store, effect, turn, runTo, run, isScalar, AllScalar, EndsEqual}
+use Rattle.passes.specs.Machine.{Meaning, State, write, store, effect, turn, runTo, run, Word, onWords, isScalar, AllScalar}
+use Rattle.passes.specs.Machine.{EndsEqual, RunsEqual}
 use Rattle.passes.proofs.Cases.{loadConst, load, save, mov, label, stack, mem}
 use Rattle.passes.proofs.Lists.{nop, end, uni, bi, fused, ifElse, loadMath, loadConstMath, param, ret, temp, left, right}
 
@@ -33,7 +34,7 @@ pub word : ℕ → Word
 word n = wordOf (n % 18446744073709551616) (mod-lt n (omega arith))
 
 -- Gen registers 10, 11 .., the named ones 20 to 23; Stack 30, 31 .., Mem 40, 41 .., Param 0, 2^32 ..; constants 60, 61 ..
-pub start : Bool → State
+pub start : Bool → State Word
 start over =
     record {
       reg = λ r. word (cond (ltb r 256) (10 + r) (r - 236));
@@ -43,13 +44,17 @@ start over =
     }
 
 -- the operation and its operands, as one number
-pub digits : Meaning
-digits =
-    record {
-      uni = λ op a. word (op * 100 + a .number);
-      bi = λ op a b. word (op * 10000 + a .number * 100 + b .number);
-      fused = λ op a b c. word (op * 1000000 + a .number * 10000 + b .number * 100 + c .number);
-    }
+pub digits1 : ℕ → Word → Word
+digits1 op a = word (op * 100 + a .number)
+
+pub digits2 : ℕ → Word → Word → Word
+digits2 op a b = word (op * 10000 + a .number * 100 + b .number)
+
+pub digits3 : ℕ → Word → Word → Word → Word
+digits3 op a b c = word (op * 1000000 + a .number * 10000 + b .number * 100 + c .number)
+
+abbrev digits : Meaning Word
+digits = onWords digits1 digits2 digits3
 
 -- the words at three Gen registers, the named ones, and two cells of each space
 pub record Words : Type 0 where
@@ -63,7 +68,7 @@ abbrev words : List ℕ → List ℕ → List ℕ → List ℕ → List ℕ → 
 words gens named stacks mems params =
     record { gens = gens; named = named; stacks = stacks; mems = mems; params = params }
 
-pub seen : State → Words
+pub seen : State Word → Words
 seen st =
     words (reg 0 ∷ reg 1 ∷ reg 2 ∷ []) (reg ret ∷ reg temp ∷ reg left ∷ reg right ∷ []) (cell stack 0 ∷ cell stack 1 ∷ [])
     (cell mem 0 ∷ cell mem 1 ∷ []) (cell param 0 ∷ cell param 1 ∷ [])
@@ -76,6 +81,21 @@ seen st =
 
 pub after : List (List ℕ) → Words
 after recs = seen (run digits (flat recs) (start false))
+
+-- what an IfElse by this word leaves: 11, true_val's word, or 12, false_val's, in Gen register 0
+pub picked : ℕ → Words
+picked c = seen (run digits (flat (ifElse 0 1 2 mem 7 ∷ [])) (store mem 7 (word c) (start false)))
+
+-- what an IfElse over numbers gives where it gives its three values, as digits
+pub shown : ℕ
+shown = run all-three (flat (ifElse 0 1 2 mem 7 ∷ [])) numbers .reg 0
+  where
+    all-three : Meaning ℕ
+    all-three =
+        record { uni = λ op a. a; bi = λ op a b. a; fused = λ op a b c. a; select = λ c a b. c * 100 + a * 10 + b }
+
+    numbers : State ℕ
+    numbers = record { reg = λ r. r; cell = λ p i. i; const = λ k. k; over = false }
 
 -- what the machine starts with, and what a list leaves of it
 abbrev untouched : Words
@@ -107,10 +127,19 @@ pub record MachineCases : Type 0 where
   pub of-load-const : after (loadConst 2 1 ∷ loadConst ret 4294967295 ∷ []) ≡ words (10 ∷ 11 ∷ 61 ∷ []) (4294967355 ∷ 21 ∷ 22 ∷ 23 ∷ [])
       (30 ∷ 31 ∷ []) (40 ∷ 41 ∷ []) (0 ∷ 4294967296 ∷ [])
   pub of-fused : after (fused 3 1 0 1 2 ∷ []) ≡ gens 10 3101112 12
-  -- the condition's word is 0, is not, and is not though its low half is
-  pub if-false : after (ifElse 0 1 2 param 0 ∷ []) ≡ gens 12 11 12
-  pub if-true : after (ifElse 0 1 2 mem 0 ∷ []) ≡ gens 11 11 12
-  pub if-high : after (ifElse 0 1 2 param 1 ∷ []) ≡ gens 11 11 12
+  -- 0 and minus zero are false; 1, a word whose low half is 0, the words beside minus zero, and the largest are true
+  pub if-zero : picked 0 ≡ gens 12 11 12
+  pub if-minus-zero : picked 0x8000000000000000 ≡ gens 12 11 12
+  pub if-one : picked 1 ≡ gens 11 11 12
+  pub if-high : picked 0x100000000 ≡ gens 11 11 12
+  pub if-below-minus-zero : picked 0x7fffffffffffffff ≡ gens 11 11 12
+  pub if-above-minus-zero : picked 0x8000000000000001 ≡ gens 11 11 12
+  pub if-largest : picked 0xffffffffffffffff ≡ gens 11 11 12
+  -- the condition's cell may be of any space
+  pub if-stack : after (ifElse 0 1 2 stack 0 ∷ []) ≡ gens 11 11 12
+  pub if-param : after (ifElse 0 1 2 param 0 ∷ []) ≡ gens 12 11 12
+  -- a meaning's select takes condition, true_val and false_val
+  pub of-select : shown ≡ 712
   pub of-load-math : after (loadMath 3 0 1 mem 1 ∷ []) ≡ gens 31141 11 12
   pub of-load-const-math : after (loadConstMath 2 0 1 3 ∷ []) ≡ gens 21163 11 12
   -- each record runs on the state that the one before it left, and reads before it writes
@@ -118,7 +147,7 @@ pub record MachineCases : Type 0 where
       ≡ words (310 ∷ 12 ∷ 310 ∷ []) (20 ∷ 21 ∷ 22 ∷ 23 ∷ []) (30 ∷ 31 ∷ []) (40 ∷ 310 ∷ []) (0 ∷ 4294967296 ∷ [])
 
 pub machine-cases : MachineCases
-unfolding word wordOf start digits seen after recordAt effect turn runTo run
+unfolding word wordOf start digits1 digits2 digits3 seen after picked shown recordAt effect turn runTo run
 machine-cases =
     record {
       no-record = refl;
@@ -134,9 +163,16 @@ machine-cases =
       of-save = refl;
       of-load-const = refl;
       of-fused = refl;
-      if-false = refl;
-      if-true = refl;
+      if-zero = refl;
+      if-minus-zero = refl;
+      if-one = refl;
       if-high = refl;
+      if-below-minus-zero = refl;
+      if-above-minus-zero = refl;
+      if-largest = refl;
+      if-stack = refl;
+      if-param = refl;
+      of-select = refl;
       of-load-math = refl;
       of-load-const-math = refl;
       in-order = refl;
@@ -160,7 +196,7 @@ scalar-cases = record { of-kinds = refl; every = refl; not-every = λ (h : false
 -- ---- what is equal at the end
 
 -- two states that differ in one place alone, which has another word v in the first
-module _ (s : Settings) (st : State) (v : Word) where
+module _ {Value : Type 0} (s : Settings) (st : State Value) (v : Value) where
   pub named-told : (r : ℕ) → 256 ≤ r → r ≤ 259 → (v ≡ st .reg r → ⊥) → EndsEqual s (write r v st) st → ⊥
   named-told r low high other h =
       let e : v ≡ write r v st .reg r = rw (eq-eqb r r refl) in
@@ -201,4 +237,36 @@ module _ (s : Settings) (st : State) (v : Word) where
         stack = λ j below.
             let other : eqb j i ≡ false = ne-eqb j i (λ (e : j ≡ i). omega arith) in
             rw other;
+      }
+
+-- ---- what demand 3 says of two lists
+
+-- Ret's number after a list
+pub returned : List (List ℕ) → ℕ
+returned recs = run digits (flat recs) (start false) .reg ret .number
+
+module _ (s : Settings) where
+  -- two lists that leave different words in Ret, under one U, B and F and from one state, are told apart
+  lists-told : (a b : List (List ℕ)) → (returned a ≡ returned b → ⊥) → RunsEqual s (flat a) (flat b) → ⊥
+  unfolding returned
+  lists-told a b other h =
+      other (ap (λ (w : Word). w .number) (h digits1 digits2 digits3 (start false) .named ret (omega arith) (omega arith)))
+
+  -- the two lists differ in U, B or F of their operands, in the state that they start from, or in what a condition picks
+  pub record ListsTold : Type 0 where
+    pub by-uni : RunsEqual s (flat (uni 1 ret 0 ∷ [])) (flat (uni 2 ret 0 ∷ [])) → ⊥
+    pub by-bi : RunsEqual s (flat (bi 1 ret 0 0 ∷ [])) (flat (bi 2 ret 0 0 ∷ [])) → ⊥
+    pub by-fused : RunsEqual s (flat (fused 1 ret 0 0 0 ∷ [])) (flat (fused 2 ret 0 0 0 ∷ [])) → ⊥
+    pub by-start : RunsEqual s (flat (mov ret 0 ∷ [])) [] → ⊥
+    pub by-condition : RunsEqual s (flat (ifElse ret 1 2 mem 0 ∷ [])) (flat (mov ret 2 ∷ [])) → ⊥
+
+  pub lists-are-told : ListsTold
+  unfolding word wordOf start digits1 digits2 digits3 returned recordAt effect turn runTo run
+  lists-are-told =
+      record {
+        by-uni = lists-told (uni 1 ret 0 ∷ []) (uni 2 ret 0 ∷ []) (λ (h : 110 ≡ 210). omega arith);
+        by-bi = lists-told (bi 1 ret 0 0 ∷ []) (bi 2 ret 0 0 ∷ []) (λ (h : 11010 ≡ 21010). omega arith);
+        by-fused = lists-told (fused 1 ret 0 0 0 ∷ []) (fused 2 ret 0 0 0 ∷ []) (λ (h : 1101010 ≡ 2101010). omega arith);
+        by-start = lists-told (mov ret 0 ∷ []) [] (λ (h : 10 ≡ 20). omega arith);
+        by-condition = lists-told (ifElse ret 1 2 mem 0 ∷ []) (mov ret 2 ∷ []) (λ (h : 11 ≡ 12). omega arith);
       }

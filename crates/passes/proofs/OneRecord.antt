@@ -30,7 +30,7 @@ use Rattle.passes.specs.Color.{Setup, setup, Coloring, loc, locOf, colou
 use Rattle.passes.specs.Color.{wantX, updateAllocs, isMember, wordFor, afterDest, afterDests, sourcesAt, destsAt, colorStep, colorTo}
 use Rattle.passes.specs.Contract.{isBeyond, readSet}
 use Rattle.passes.specs.Create.{endsOf}
-use Rattle.passes.specs.Machine.{Word, State, write}
+use Rattle.passes.specs.Machine.{State, write}
 use Rattle.passes.proofs.Assign.{Live, Gets, SimIn, staticIn, numberIn, holds-inside, sim-assign, live-assign}
 use Rattle.passes.proofs.Choice.{choose-free, choose-found, pool-not-empty}
 use Rattle.passes.proofs.Create.{In, Names, all-in, names-to, read-end, regs-length}
@@ -47,7 +47,7 @@ module _ (s : Settings) (list table : List ℕ) where
   Seen p x = (isBeyond (fixedMark s) (loc p x) ≡ false) ⊎ (isMember (loc p x) (readSet (setup s list table)) ≡ true)
 
   -- before record i neither run is over, and they agree
-  pub record Running (i : ℕ) (A B : State) : Type 0 where
+  pub record Running {Value : Type 0} (i : ℕ) (A B : State Value) : Type 0 where
     pub a-runs : A .over ≡ false
     pub b-runs : B .over ≡ false
     pub sim : SimIn (s .«count_regs») (endsOf list) Seen i (regsTo list i) (colorTo (setup s list table) i .colours) (colorTo (setup s list table) i .allocs) A B
@@ -94,17 +94,17 @@ module _ (p : Place) where
   abbrev pub Looked : ℕ → ℕ → Type 0
   Looked = Seen (p .s) (p .list) (p .table)
 
-  abbrev pub Before : State → State → Type 0
+  abbrev pub Before : {Value : Type 0} → State Value → State Value → Type 0
   Before = Running (p .s) (p .list) (p .table) (p .i)
 
-  abbrev pub After : State → State → Type 0
+  abbrev pub After : {Value : Type 0} → State Value → State Value → Type 0
   After = Running (p .s) (p .list) (p .table) (suc (p .i))
 
   ready : Ready made (p .i)
   ready = ready-to (p .s) (p .list) (p .table) (p .passes) (p .i) (omega (arith, p .inside))
 
   -- after the record, by what it makes of the registers' statics, the colours given and the colours' state
-  pub after : {rs : List Current} {cs : List ℕ} {al : List Alloc} {A B : State} → regsTo (p .list) (suc (p .i)) ≡ rs → next .colours ≡ cs → next .allocs ≡ al
+  pub after : {Value : Type 0} {rs : List Current} {cs : List ℕ} {al : List Alloc} {A B : State Value} → regsTo (p .list) (suc (p .i)) ≡ rs → next .colours ≡ cs → next .allocs ≡ al
       → A .over ≡ false → B .over ≡ false → SimIn count (endsOf (p .list)) Looked (suc (p .i)) rs cs al A B → Live count (endsOf (p .list)) rs cs al → After A B
   after er ec ea a b sim live = record { a-runs = a; b-runs = b; sim = rw (er, ec, ea) sim; live = rw (er, ec, ea) live }
 
@@ -113,7 +113,7 @@ first i = omega arith
 
 -- ---- what a record reads
 
-module _ (p : Place) {A B : State} (g : Before p A B) where
+module _ (p : Place) {Value : Type 0} {A B : State Value} (g : Before p A B) where
   -- a source has the same value in both runs
   pub source-same : (w : ℕ) → In w (sources (rec p)) → A .reg w ≡ B .reg (src p w)
   source-same w m = go (isGen w) refl
@@ -172,7 +172,7 @@ module _ {p : Place} {d : ℕ} {h : Held} (o : OneDest p d h) where
   regs-after : regsTo (p .list) (suc (p .i)) ≡ produced (d ∷ []) (staticsTo (p .list) (p .i)) (regs p)
   regs-after = regs-next (p .list) (p .i) no-reset ∙ ap (λ (ws : List ℕ). produced ws (staticsTo (p .list) (p .i)) (regs p)) (o .one)
 
-  module _ {A B : State} (g : Before p A B) (v : Word) where
+  module _ {Value : Type 0} {A B : State Value} (g : Before p A B) (v : Value) where
     -- the registers that hold statics, and their colours, are Gen
     small : (r t : ℕ) → staticIn (regs p) r ≡ Static t → (r < 256) × (numberIn (state p .colours) t < count p)
     small r t e =
@@ -269,7 +269,7 @@ module _ (p : Place) (none : dests (rec p) ≡ []) (no-reset : shapeFor (rec p) 
   same-regs = regs-next (p .list) (p .i) no-reset ∙ ap (λ (ws : List ℕ). produced ws (staticsTo (p .list) (p .i)) (regs p)) none
 
   -- as is the colours' state after its action
-  pub none-after : {al : List Alloc} {A B : State} → updateAllocs (shapeFor (rec p) .action) (locOf (rec p)) (source 0) (source 1) (state p .allocs) ≡ al
+  pub none-after : {Value : Type 0} {al : List Alloc} {A B : State Value} → updateAllocs (shapeFor (rec p) .action) (locOf (rec p)) (source 0) (source 1) (state p .allocs) ≡ al
       → A .over ≡ false → B .over ≡ false → SimIn (count p) (endsOf (p .list)) (Looked p) (suc (p .i)) (regs p) (state p .colours) al A B
       → Live (count p) (endsOf (p .list)) (regs p) (state p .colours) al → After p A B
   none-after e = after p same-regs same-colours (updated-allocs ∙ e)

@@ -1,5 +1,5 @@
--- Demand 3, `preserved`: for every list, table and settings that pass section 7 with scalar straight-line kinds only, under
--- every meaning of the operations and from every state, the run of the list and the run of its reduced list end equal.
+-- Demand 3, `preserved`: for every list, table and settings that pass section 7 with scalar straight-line kinds only, over
+-- values of any type, under every meaning and from every state, the run of the list and the run of its reduced list end equal.
 -- By induction on the records: before each the two runs agree (`Running`), or both are over and ended equal (`Stopped`). A
 -- record's kind picks its step; what agrees at the end is the claim.
 use Prim.Native.Nat.{ℕ, zero, suc, _≤_, _<_}
@@ -23,7 +23,7 @@ use Rattle.passes.specs.declared.alloc.Outcome.the-variants.{Kept}
 use Rattle.passes.specs.declared.symbol.Loc.{Loc}
 use Rattle.passes.specs.Color.{Setup, setup, colorTo, colourAt, blank}
 use Rattle.passes.specs.Contract.{isKept, outcomeAt, outAt, reducedTo, reduced, countTo}
-use Rattle.passes.specs.Machine.{Meaning, State, turn, runTo, run, isScalar, AllScalar, Passing, EndsEqual}
+use Rattle.passes.specs.Machine.{Meaning, State, turn, runTo, run, onWords, isScalar, AllScalar, Passing, EndsEqual, RunsEqual}
 use Rattle.passes.proofs.OneRecord.{Running, Place}
 use Rattle.passes.proofs.Create.{not-fresh}
 use Rattle.passes.proofs.Lengths.{out-length, reduced-length}
@@ -36,7 +36,7 @@ pub eight : (l : List ℕ) → length l ≡ 8
     → l ≡ row (wordAt l 0) (wordAt l 1) (wordAt l 2) (wordAt l 3) (wordAt l 4) (wordAt l 5) (wordAt l 6) (wordAt l 7)
 eight l h = sym (take-all 8 l (omega arith)) ∙ words-at l 8 0 (omega arith)
 
-module _ (s : Settings) (list table : List ℕ) (passes : ListPasses s list table) (m : Meaning) (start : State) where
+module _ (s : Settings) (list table : List ℕ) (passes : ListPasses s list table) {Value : Type 0} (m : Meaning Value) (start : State Value) where
   abbrev made : Setup
   made = setup s list table
 
@@ -44,10 +44,10 @@ module _ (s : Settings) (list table : List ℕ) (passes : ListPasses s list tabl
   kept i = isKept (outcomeAt (fixedMark s) made i)
 
   -- the two runs as far as record i
-  abbrev a-run : ℕ → State
+  abbrev a-run : ℕ → State Value
   a-run i = runTo m list start i
 
-  abbrev b-run : ℕ → State
+  abbrev b-run : ℕ → State Value
   b-run i = run m (reducedTo (fixedMark s) made i) start
 
   abbrev AgreeTo : ℕ → Type 0
@@ -63,7 +63,7 @@ module _ (s : Settings) (list table : List ℕ) (passes : ListPasses s list tabl
           (reduced-length (fixedMark s) made i (omega arith)) (out-length made i inside)
       go false = rw (append-nil (reducedTo (fixedMark s) made i))
 
-  over-stays : (rec : List ℕ) (A : State) → A .over ≡ true → turn m rec A ≡ A
+  over-stays : (rec : List ℕ) (A : State Value) → A .over ≡ true → turn m rec A ≡ A
   unfolding turn
   over-stays rec A h = rw h
 
@@ -114,7 +114,7 @@ module _ (s : Settings) (list table : List ℕ) (passes : ListPasses s list tabl
   agree-to h zero l = agree-first
   agree-to h (suc i) l = agree-next i (omega arith) (h i (omega arith)) (agree-to h i (omega arith))
 
-pub preserved : (s : Settings) (list table : List ℕ) → Passing s list table → AllScalar list → (m : Meaning) (start : State)
+pub preserved : (s : Settings) (list table : List ℕ) → Passing s list table → AllScalar list → {Value : Type 0} (m : Meaning Value) (start : State Value)
     → EndsEqual s (run m list start) (run m (reduced s list table) start)
 unfolding Passing AllScalar run reduced
 preserved s list table passing scalar m start =
@@ -122,3 +122,7 @@ preserved s list table passing scalar m start =
     let each = all-at (λ (j : ℕ). isScalar (wordAt (recordAt list j) 0)) n in
     ⊎-elim (ends-equal s list table) (λ (g : Stopped s (runTo m list start n) (run m (reduced s list table) start)). g .equal)
     (agree-to s list table (list-passes true s list table passing) m start (λ i l. each i scalar l) n (omega arith))
+
+-- over words, as section 5 and request 2 have it
+pub runs-equal : (s : Settings) (list table : List ℕ) → Passing s list table → AllScalar list → RunsEqual s list (reduced s list table)
+runs-equal s list table passing scalar U B F = preserved s list table passing scalar (onWords U B F)

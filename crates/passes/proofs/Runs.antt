@@ -28,17 +28,17 @@ record-length list i l = lib.Seq.length-take-le 8 (drop (i * 8) list) (rw length
 one-fewer : (k n : ℕ) → suc k * 8 ≤ n → k * 8 ≤ n
 one-fewer k n h = omega arith
 
-run-one-more : (m : Meaning) (st : State) (xs ys : List ℕ) (k : ℕ) → suc k * 8 ≤ length xs → runTo m (xs ++ ys) st k ≡ runTo m xs st k
+run-one-more : {Value : Type 0} (m : Meaning Value) (st : State Value) (xs ys : List ℕ) (k : ℕ) → suc k * 8 ≤ length xs → runTo m (xs ++ ys) st k ≡ runTo m xs st k
     → runTo m (xs ++ ys) st (suc k) ≡ runTo m xs st (suc k)
 unfolding runTo
 run-one-more m st xs ys k h up = rw (up, record-early xs ys k (omega arith))
 
-run-early : (m : Meaning) (st : State) (xs ys : List ℕ) (k : ℕ) → k * 8 ≤ length xs → runTo m (xs ++ ys) st k ≡ runTo m xs st k
+run-early : {Value : Type 0} (m : Meaning Value) (st : State Value) (xs ys : List ℕ) (k : ℕ) → k * 8 ≤ length xs → runTo m (xs ++ ys) st k ≡ runTo m xs st k
 unfolding runTo
 run-early m st xs ys zero h = refl
 run-early m st xs ys (suc k) h = run-one-more m st xs ys k h (run-early m st xs ys k (one-fewer k (length xs) h))
 
-pub run-append : (m : Meaning) (st : State) (xs rec : List ℕ) (k : ℕ) → length xs ≡ k * 8 → length rec ≡ 8
+pub run-append : {Value : Type 0} (m : Meaning Value) (st : State Value) (xs rec : List ℕ) (k : ℕ) → length xs ≡ k * 8 → length rec ≡ 8
     → run m (xs ++ rec) st ≡ turn m rec (run m xs st)
 unfolding run runTo
 run-append m st xs rec k h r =

@@ -12,7 +12,7 @@ use Rattle.mir.specs.declared.rename.Current.the-variants.{Static}
 use Rattle.passes.specs.declared.alloc.Held.{Held}
 use Rattle.passes.specs.declared.alloc.Held.the-variants.{At}
 use Rattle.passes.specs.declared.symbol.Loc.{Loc}
-use Rattle.passes.specs.Machine.{Word, State, write, store}
+use Rattle.passes.specs.Machine.{State, write, store}
 use Rattle.passes.proofs.Update.{upd, upd-at, upd-else, same-or}
 
 -- ---- cells
@@ -30,10 +30,10 @@ same-cell-or p x q y = go (same-or q p) (same-or y x)
     go (inr a) t = inr (λ k. a (k .0))
 
 -- a cell after a store
-pub stored-at : (p x : ℕ) (v : Word) (A : State) → store p x v A .cell p x ≡ v
+pub stored-at : {Value : Type 0} (p x : ℕ) (v : Value) (A : State Value) → store p x v A .cell p x ≡ v
 stored-at p x v A = rw (eq-eqb p p refl, eq-eqb x x refl)
 
-pub stored-else : (p x : ℕ) (v : Word) (A : State) (q y : ℕ) → (SameCell p x q y → ⊥) → store p x v A .cell q y ≡ A .cell q y
+pub stored-else : {Value : Type 0} (p x : ℕ) (v : Value) (A : State Value) (q y : ℕ) → (SameCell p x q y → ⊥) → store p x v A .cell q y ≡ A .cell q y
 stored-else p x v A q y k = go (same-or q p) (same-or y x)
   where
     go : (q ≡ p) ⊎ (q ≡ p → ⊥) → (y ≡ x) ⊎ (y ≡ x → ⊥) → store p x v A .cell q y ≡ A .cell q y
@@ -46,7 +46,7 @@ stored-else p x v A q y k = go (same-or q p) (same-or y x)
 -- n colours, E each static's end, Seen the cells that somebody looks at: after the run, or a record of the reduced list.
 -- Before record i, with ρ each register's static, κ each static's colour and hold each colour's location: a run of the
 -- list has come to A, and one of what was put out and kept to B
-pub record Sim (n : ℕ) (E : ℕ → ℕ) (Seen : ℕ → ℕ → Type 0) (i : ℕ) (ρ : ℕ → Current) (κ : ℕ → ℕ) (hold : ℕ → Held) (A B : State) : Type 0 where
+pub record Sim {Value : Type 0} (n : ℕ) (E : ℕ → ℕ) (Seen : ℕ → ℕ → Type 0) (i : ℕ) (ρ : ℕ → Current) (κ : ℕ → ℕ) (hold : ℕ → Held) (A B : State Value) : Type 0 where
   pub named : (r : ℕ) → 256 ≤ r → A .reg r ≡ B .reg r
   pub const : (k : ℕ) → A .const k ≡ B .const k
   pub cells : (p x : ℕ) → Seen p x → A .cell p x ≡ B .cell p x
@@ -55,7 +55,7 @@ pub record Sim (n : ℕ) (E : ℕ → ℕ) (Seen : ℕ → ℕ → Type 0) (i : 
 
 -- Gen register d gets static s, in colour c, with the value v; B′ is the reduced run's state then, κ′ the colours and
 -- hold′ the locations. `safe`: no other register that is needed later lost its colour's value
-pub record Assigned (n : ℕ) (E : ℕ → ℕ) (i : ℕ) (ρ : ℕ → Current) (κ κ′ : ℕ → ℕ) (hold′ : ℕ → Held) (A B B′ : State) (d s c : ℕ) (v : Word) : Type 0 where
+pub record Assigned {Value : Type 0} (n : ℕ) (E : ℕ → ℕ) (i : ℕ) (ρ : ℕ → Current) (κ κ′ : ℕ → ℕ) (hold′ : ℕ → Held) (A B B′ : State Value) (d s c : ℕ) (v : Value) : Type 0 where
   pub gen : d < 256
   pub new : κ′ s ≡ c
   pub old : (r t : ℕ) → ρ r ≡ Static t → κ′ t ≡ κ t
@@ -68,7 +68,7 @@ pub record Assigned (n : ℕ) (E : ℕ → ℕ) (i : ℕ) (ρ : ℕ → Current)
 
 -- cell (p, x) gets the value v in the list's run; B′ is the reduced run's state then, which has it too if somebody looks
 -- there, and hold′ the locations
-pub record Stored (n : ℕ) (Seen : ℕ → ℕ → Type 0) (hold hold′ : ℕ → Held) (B B′ : State) (p x : ℕ) (v : Word) : Type 0 where
+pub record Stored {Value : Type 0} (n : ℕ) (Seen : ℕ → ℕ → Type 0) (hold hold′ : ℕ → Held) (B B′ : State Value) (p x : ℕ) (v : Value) : Type 0 where
   pub reg : (r : ℕ) → B′ .reg r ≡ B .reg r
   pub const : (k : ℕ) → B′ .const k ≡ B .const k
   pub here : Seen p x → B′ .cell p x ≡ v
@@ -77,7 +77,7 @@ pub record Stored (n : ℕ) (Seen : ℕ → ℕ → Type 0) (hold hold′ : ℕ 
       → (SameCell p x (l .space) (l .index) × (B .reg k ≡ v)) ⊎ ((SameCell p x (l .space) (l .index) → ⊥) × (hold k ≡ At l))
 
 -- record i, or one destination of it: the runs agree before it (k is i), or after another destination (k is suc i)
-module _ {n : ℕ} {E : ℕ → ℕ} {Seen : ℕ → ℕ → Type 0} {k i : ℕ} {ρ : ℕ → Current} {κ : ℕ → ℕ} {hold : ℕ → Held} {A B : State}
+module _ {Value : Type 0} {n : ℕ} {E : ℕ → ℕ} {Seen : ℕ → ℕ → Type 0} {k i : ℕ} {ρ : ℕ → Current} {κ : ℕ → ℕ} {hold : ℕ → Held} {A B : State Value}
     (early : k ≤ suc i) (sim : Sim n E Seen k ρ κ hold A B) where
   -- the index goes on: what is needed from the next record on was needed from this one on
   pub sim-next : Sim n E Seen (suc i) ρ κ hold A B
@@ -90,7 +90,7 @@ module _ {n : ℕ} {E : ℕ → ℕ} {Seen : ℕ → ℕ → Type 0} {k i : ℕ}
         held = sim .held;
       }
 
-  pub into-gen : {κ′ : ℕ → ℕ} {hold′ : ℕ → Held} {B′ : State} {d s c : ℕ} {v : Word} → Assigned n E i ρ κ κ′ hold′ A B B′ d s c v
+  pub into-gen : {κ′ : ℕ → ℕ} {hold′ : ℕ → Held} {B′ : State Value} {d s c : ℕ} {v : Value} → Assigned n E i ρ κ κ′ hold′ A B B′ d s c v
       → Sim n E Seen (suc i) (upd ρ d (Static s)) κ′ hold′ (write d v A) B′
   into-gen {κ′} {hold′} {B′} {d} {s} {c} {v} g =
       record {
@@ -113,7 +113,7 @@ module _ {n : ℕ} {E : ℕ → ℕ} {Seen : ℕ → ℕ → Type 0} {k i : ℕ}
           rw (upd-else (A .reg) d v r h, g .old r t f, g .safe r t h f l) (sim .regs r t f (omega arith))
 
   -- a named register w gets the value v in both runs; the registers that hold statics, and their colours, are Gen
-  pub into-named : (w : ℕ) (v : Word) → 256 ≤ w → n ≤ 256 → ((r s : ℕ) → ρ r ≡ Static s → (r < 256) × (κ s < n))
+  pub into-named : (w : ℕ) (v : Value) → 256 ≤ w → n ≤ 256 → ((r s : ℕ) → ρ r ≡ Static s → (r < 256) × (κ s < n))
       → Sim n E Seen (suc i) ρ κ hold (write w v A) (write w v B)
   into-named w v h few small =
       record {
@@ -131,7 +131,7 @@ module _ {n : ℕ} {E : ℕ → ℕ} {Seen : ℕ → ℕ → Type 0} {k i : ℕ}
         held = λ c l k e. rw (upd-else (B .reg) w v c (λ (q : c ≡ w). omega arith)) (sim .held c l k e);
       }
 
-  pub into-cell : {hold′ : ℕ → Held} {B′ : State} {p x : ℕ} {v : Word} → Stored n Seen hold hold′ B B′ p x v
+  pub into-cell : {hold′ : ℕ → Held} {B′ : State Value} {p x : ℕ} {v : Value} → Stored n Seen hold hold′ B B′ p x v
       → Sim n E Seen (suc i) ρ κ hold′ (store p x v A) B′
   into-cell {hold′} {B′} {p} {x} {v} g =
       record {

@@ -26,7 +26,7 @@ use Rattle.passes.specs.declared.symbol.Loc.{Loc}
 use Rattle.passes.specs.Color.{loc, colourAt, isFound, heldBy, holds, clear, give, isMember, wordFor, wordsFor, foundFirst, foundAt, colored}
 use Rattle.passes.specs.Contract.{outcomeOf, outAt, outcomeAt, isKept, readSet, isBeyond}
 use Rattle.passes.specs.Create.{endsOf}
-use Rattle.passes.specs.Machine.{Word, Meaning, State, write, finish, effect, turn, isTrue, isScalar, EndsEqual}
+use Rattle.passes.specs.Machine.{Meaning, State, write, finish, effect, turn, isScalar, EndsEqual}
 use Rattle.passes.proofs.OneRecord.{Running, Place, OneDest, Before, count, made, state, rec, regs, src, choice, dst, Looked}
 use Rattle.passes.proofs.OneRecord.{source-same, source-small, cell-same, dest-after, none-after}
 use Rattle.passes.proofs.Assign.{Live, Lives, numberIn, heldIn}
@@ -38,17 +38,17 @@ use Rattle.passes.proofs.Sim.{SameCell, Stored, sim-next, into-cell, st
 use Rattle.passes.proofs.Update.{upd-own}
 
 -- both runs are over, and ended equal
-pub record Stopped (s : Settings) (A B : State) : Type 0 where
+pub record Stopped {Value : Type 0} (s : Settings) (A B : State Value) : Type 0 where
   pub a-over : A .over ≡ true
   pub b-over : B .over ≡ true
   pub equal : EndsEqual s A B
 
 module _ (s : Settings) (list table : List ℕ) where
-  abbrev pub Agree : ℕ → State → State → Type 0
+  abbrev pub Agree : {Value : Type 0} → ℕ → State Value → State Value → Type 0
   Agree i A B = Running s list table i A B ⊎ Stopped s A B
 
   -- what agrees is what the claim asks
-  pub ends-equal : {i : ℕ} {A B : State} → Running s list table i A B → EndsEqual s A B
+  pub ends-equal : {Value : Type 0} {i : ℕ} {A B : State Value} → Running s list table i A B → EndsEqual s A B
   ends-equal g =
       record {
         named = λ r h k. g .sim .named r h;
@@ -58,7 +58,7 @@ module _ (s : Settings) (list table : List ℕ) where
       }
 
 -- writing a register's own value changes nothing
-write-self : (B : State) (w : ℕ) (v : Word) → B .reg w ≡ v → B ≡ write w v B
+write-self : {Value : Type 0} (B : State Value) (w : ℕ) (v : Value) → B .reg w ≡ v → B ≡ write w v B
 write-self B w v h =
     let f : B .reg ≡ (λ (r : ℕ). cond (eqb r w) v (B .reg r)) = fun-ext (upd-own (B .reg) w v h) in
     λ k. record { reg = f k; cell = B .cell; const = B .const; over = B .over }
@@ -100,7 +100,7 @@ module _ (P : ℕ → Type 0) where
       (at-kind k 18 p18) (or-cases (leb k 6 || eqb k 9 || eqb k 13 || eqb k 14) (eqb k 18) a))
       (at-kind k 19 p19) (or-cases (leb k 6 || eqb k 9 || eqb k 13 || eqb k 14 || eqb k 18) (eqb k 19) h)
 
-module _ (m : Meaning) (p : Place) {A B : State} (g : Before p A B) where
+module _ {Value : Type 0} (m : Meaning Value) (p : Place) {A B : State Value} (g : Before p A B) where
   abbrev kept : Bool
   kept = isKept (outcomeAt (fixedMark (p .s)) (made p) (p .i))
 
@@ -112,28 +112,28 @@ module _ (m : Meaning) (p : Place) {A B : State} (g : Before p A B) where
   Steps = Agree (p .s) (p .list) (p .table) (suc (p .i)) (turn m (rec p) A) (cond kept (turn m out B) B)
 
   -- neither run being over, a turn is the record's effect
-  goes : (r : List ℕ) (S : State) → S .over ≡ false → turn m r S ≡ effect m r S
+  goes : (r : List ℕ) (S : State Value) → S .over ≡ false → turn m r S ≡ effect m r S
   unfolding turn
   goes r S h = rw h
 
-  stepped : {A′ B′ : State} → effect m (rec p) A ≡ A′ → cond kept (effect m out B) B ≡ B′ → Agree (p .s) (p .list) (p .table) (suc (p .i)) A′ B′ → Steps
+  stepped : {A′ B′ : State Value} → effect m (rec p) A ≡ A′ → cond kept (effect m out B) B ≡ B′ → Agree (p .s) (p .list) (p .table) (suc (p .i)) A′ B′ → Steps
   stepped a b h = rw (goes (rec p) A (g .a-runs), goes out B (g .b-runs), a, b) h
 
   -- ---- one register
 
   -- the record writes the value v to d, which is wanted with h
-  record Writes (d : ℕ) (h : Held) (v : Word) : Type 0 where
+  record Writes (d : ℕ) (h : Held) (v : Value) : Type 0 where
     pub dest : OneDest p d h
     pub list-run : effect m (rec p) A ≡ write d v A
     pub reduced-run : cond kept (effect m out B) B ≡ write (dst p d h) v B
     pub found : (c : ℕ) → choice p h ≡ Found c → v ≡ B .reg c
     pub holds : (l : Loc) → h ≡ At l → v ≡ A .cell (l .space) (l .index)
 
-  writes : {d : ℕ} {h : Held} {v : Word} → Writes d h v → Steps
+  writes : {d : ℕ} {h : Held} {v : Value} → Writes d h v → Steps
   writes {v = v} w = stepped (w .list-run) (w .reduced-run) (inl (dest-after (w .dest) g v (w .found) (w .holds)))
 
   -- v is computed: d is wanted with nothing, and the record is kept
-  computes : (d : ℕ) (v : Word) → dests (rec p) ≡ d ∷ [] → shapeFor (rec p) .action ≡ action.Other → kept ≡ true
+  computes : (d : ℕ) (v : Value) → dests (rec p) ≡ d ∷ [] → shapeFor (rec p) .action ≡ action.Other → kept ≡ true
       → effect m (rec p) A ≡ write d v A → effect m out B ≡ write (dst p d Nothing) v B → Steps
   computes d v one other stays a b =
       writes
@@ -326,7 +326,7 @@ module _ (m : Meaning) (p : Place) {A B : State} (g : Before p A B) where
                   clash (cc)
 
       -- B′ is the reduced run's state after the record
-      save-after : {B′ : State} → B′ .over ≡ false → cond kept (effect m out B) B ≡ B′ → (Looked p w2 w3 → B′ .cell w2 w3 ≡ A .reg w1)
+      save-after : {B′ : State Value} → B′ .over ≡ false → cond kept (effect m out B) B ≡ B′ → (Looked p w2 w3 → B′ .cell w2 w3 ≡ A .reg w1)
           → ((q x : ℕ) → (SameCell w2 w3 q x → ⊥) → B′ .cell q x ≡ B .cell q x) → ((r : ℕ) → B′ .reg r ≡ B .reg r) → ((k : ℕ) → B′ .const k ≡ B .const k) → Steps
       unfolding dests sources shapeOf effect
       save-after {B′} over run here other reg const =
@@ -396,7 +396,7 @@ module _ (m : Meaning) (p : Place) {A B : State} (g : Before p A B) where
         (λ e. computes w1 (A .const w2) (rw e) (rw e) (rw e) (rw e) (rw (e, g .sim .const w2)))
         (λ e. computes w2 (m .fused w1 (A .reg w3) (A .reg w4) (A .reg w5)) (rw e) (rw e) (rw e) (rw e)
         (rw (e, same w3 (rw e (inl refl)), same w4 (rw e (inr (inl refl))), same w5 (rw e (inr (inr (inl refl)))))))
-        (λ e. computes w1 (cond (isTrue (A .cell w4 w5)) (A .reg w2) (A .reg w3)) (rw e) (rw e) (rw e) (rw e)
+        (λ e. computes w1 (m .select (A .cell w4 w5) (A .reg w2) (A .reg w3)) (rw e) (rw e) (rw e) (rw e)
         (rw (e, same-cell w4 w5 (rw e (inl refl)), same w2 (rw e (inl refl)), same w3 (rw e (inr (inl refl))))))
         (λ e. computes w2 (m .bi w1 (A .reg w3) (A .cell w4 w5)) (rw e) (rw e) (rw e) (rw e) (rw (e, same-cell w4 w5 (rw e (inl refl)), same w3 (rw e (inl refl)))))
         (λ e. computes w2 (m .bi w1 (A .reg w3) (A .const w4)) (rw e) (rw e) (rw e) (rw e) (rw (e, g .sim .const w4, same w3 (rw e (inl refl)))))

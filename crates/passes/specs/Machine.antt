@@ -1,4 +1,5 @@
--- Public, document 01, section 5: the plain machine for demand 3.
+-- Public, document 01, section 5: the plain machine for demand 3. What it runs over may be values of any type; section 5's own
+-- has words of 64 bits, and the test of IfElse that document 02's request 2 gives it.
 use Prim.Native.Nat.{ℕ, zero, suc, _<_, _≤_, _^_}
 use mathlib.Core.Bool.{Bool, true, false, cond, _&&_, _||_, not}
 use mathlib.Core.List.{List, [], _∷_}
@@ -11,32 +12,25 @@ use Rattle.mir.specs.Folds.{allBelow}
 use Rattle.mir.specs.Questions.{refusal}
 use Rattle.mir.specs.Records.{records, recordAt, wordAt, fixedMark}
 
--- a word of 64 bits
-pub record Word : Type 0 where
-  pub number : ℕ
-  pub fits : number < 2 ^ 64
-
--- the test of IfElse: a condition's word picks true_val if it isn't 0
-abbrev pub isTrue : Word → Bool
-isTrue w = not (eqb (w .number) 0)
-
--- arbitrary meanings of the operations: a word of an operation and its operand words
-pub record Meaning : Type 0 where
-  pub uni : ℕ → Word → Word
-  pub bi : ℕ → Word → Word → Word
-  pub fused : ℕ → Word → Word → Word → Word
+-- what is done with values: a value of an operation and its operands, and IfElse's value of its condition, true_val and
+-- false_val
+pub record Meaning (Value : Type 0) : Type 0 where
+  pub uni : ℕ → Value → Value
+  pub bi : ℕ → Value → Value → Value
+  pub fused : ℕ → Value → Value → Value → Value
+  pub select : Value → Value → Value → Value
 
 -- registers by their word, cells by space and index, constants by index; a run that has met End is over
-pub record State : Type 0 where
-  pub reg : ℕ → Word
-  pub cell : ℕ → ℕ → Word
-  pub const : ℕ → Word
+pub record State (Value : Type 0) : Type 0 where
+  pub reg : ℕ → Value
+  pub cell : ℕ → ℕ → Value
+  pub const : ℕ → Value
   pub over : Bool
 
-abbrev pub write : ℕ → Word → State → State
+abbrev pub write : {Value : Type 0} → ℕ → Value → State Value → State Value
 write w v st = record { reg = λ r. cond (eqb r w) v (st .reg r); cell = st .cell; const = st .const; over = st .over }
 
-abbrev pub store : ℕ → ℕ → Word → State → State
+abbrev pub store : {Value : Type 0} → ℕ → ℕ → Value → State Value → State Value
 store space index v st =
     record {
       reg = st .reg;
@@ -45,15 +39,15 @@ store space index v st =
       over = st .over;
     }
 
-abbrev pub finish : State → State
+abbrev pub finish : {Value : Type 0} → State Value → State Value
 finish st = record { reg = st .reg; cell = st .cell; const = st .const; over = true }
 
-abbrev pub stay : State → State
+abbrev pub stay : {Value : Type 0} → State Value → State Value
 stay st = st
 
 -- what a record does, by its kind; w1 to w5 are its words. The kinds that are not scalar and straight-line have no
 -- meaning here
-abbrev pub effects : Meaning → (w1 w2 w3 w4 w5 : ℕ) → List (State → State)
+abbrev pub effects : {Value : Type 0} → Meaning Value → (w1 w2 w3 w4 w5 : ℕ) → List (State Value → State Value)
 effects m w1 w2 w3 w4 w5 =
     stay  -- 0 Nop
     ∷ finish  -- 1 End
@@ -69,7 +63,7 @@ effects m w1 w2 w3 w4 w5 =
     ∷ stay  -- 11 SaveArgs
     ∷ stay  -- 12 Call
     ∷ (λ st. write w2 (m .fused w1 (st .reg w3) (st .reg w4) (st .reg w5)) st)  -- 13 Fused
-    ∷ (λ st. write w1 (cond (isTrue (st .cell w4 w5)) (st .reg w2) (st .reg w3)) st)  -- 14 IfElse
+    ∷ (λ st. write w1 (m .select (st .cell w4 w5) (st .reg w2) (st .reg w3)) st)  -- 14 IfElse
     ∷ stay  -- 15 Label
     ∷ stay  -- 16 Branch
     ∷ stay  -- 17 BranchIf
@@ -77,20 +71,36 @@ effects m w1 w2 w3 w4 w5 =
     ∷ (λ st. write w2 (m .bi w1 (st .reg w3) (st .const w4)) st)  -- 19 LoadConstMath
     ∷ []
 
-unfoldable pub effect : Meaning → List ℕ → State → State
+unfoldable pub effect : {Value : Type 0} → Meaning Value → List ℕ → State Value → State Value
 effect m rec =
     getD (effects m (wordAt rec 1) (wordAt rec 2) (wordAt rec 3) (wordAt rec 4) (wordAt rec 5)) (wordAt rec 0) stay
 
 -- records run from the first on, each on the state that the one before it left, until End or the last record
-unfoldable pub turn : Meaning → List ℕ → State → State
+unfoldable pub turn : {Value : Type 0} → Meaning Value → List ℕ → State Value → State Value
 turn m rec st = cond (st .over) st (effect m rec st)
 
-unfoldable pub runTo : Meaning → List ℕ → State → ℕ → State
+unfoldable pub runTo : {Value : Type 0} → Meaning Value → List ℕ → State Value → ℕ → State Value
 runTo m list st zero = st
 runTo m list st (suc i) = turn m (recordAt list i) (runTo m list st i)
 
-unfoldable pub run : Meaning → List ℕ → State → State
+unfoldable pub run : {Value : Type 0} → Meaning Value → List ℕ → State Value → State Value
 run m list st = runTo m list st (records list)
+
+-- ---- section 5's machine
+
+-- a word of 64 bits
+pub record Word : Type 0 where
+  pub number : ℕ
+  pub fits : number < 2 ^ 64
+
+-- the test of IfElse, as request 2 has it: a condition's word picks false_val if it is 0 or minus zero, which is
+-- 8000000000000000 in hex, else true_val
+abbrev pub isTrue : Word → Bool
+isTrue w = not (eqb (w .number) 0 || eqb (w .number) 0x8000000000000000)
+
+-- over words, with any U, B and F
+abbrev pub onWords : (ℕ → Word → Word) → (ℕ → Word → Word → Word) → (ℕ → Word → Word → Word → Word) → Meaning Word
+onWords U B F = record { uni = U; bi = B; fused = F; select = λ c a b. cond (isTrue c) a b }
 
 -- ---- the claim's terms
 
@@ -106,8 +116,14 @@ unfoldable pub Passing : Settings → List ℕ → List ℕ → Type 0
 Passing s list table = refusal true s list table ≡ Passed
 
 -- two runs end equal: the named registers, all Mem and Param cells, and the Stack cells below the fixed mark
-pub record EndsEqual (s : Settings) (a b : State) : Type 0 where
+pub record EndsEqual {Value : Type 0} (s : Settings) (a b : State Value) : Type 0 where
   pub named : (r : ℕ) → 256 ≤ r → r ≤ 259 → a .reg r ≡ b .reg r
   pub mem : (i : ℕ) → a .cell 1 i ≡ b .cell 1 i
   pub param : (i : ℕ) → a .cell 2 i ≡ b .cell 2 i
   pub stack : (i : ℕ) → i < fixedMark s → a .cell 0 i ≡ b .cell 0 i
+
+-- demand 3 of two lists: on section 5's machine, for every U, B and F and from every state, their runs end equal
+abbrev pub RunsEqual : Settings → (a b : List ℕ) → Type 0
+RunsEqual s a b =
+    (U : ℕ → Word → Word) (B : ℕ → Word → Word → Word) (F : ℕ → Word → Word → Word → Word) (start : State Word)
+    → EndsEqual s (run (onWords U B F) a start) (run (onWords U B F) b start)

@@ -19,9 +19,9 @@ use Rattle.mir.proofs.Passing.{room-passes}
 use Rattle.passes.specs.declared.alloc.Outcome.the-variants.{Kept}
 use Rattle.passes.specs.Color.{setup}
 use Rattle.passes.specs.Contract.{countsOf, countOf}
-use Rattle.passes.specs.Machine.{Passing, Meaning, State, run, AllScalar, EndsEqual}
+use Rattle.passes.specs.Machine.{Passing, AllScalar, RunsEqual}
 use Rattle.passes.proofs.Lengths.{counts-add}
-use Rattle.passes.proofs.Preserved.{preserved}
+use Rattle.passes.proofs.Preserved.{runs-equal}
 use Rattle.rudzaviks.specs.declared.file.Layout.the-variants as layout
 use Rattle.rudzaviks.specs.File.{settingsIn, pairCount, recordCount, tableIn, listIn, wellFormed, layoutOf, fileVerdict, fileCounts, fileReduced}
 use Rattle.rudzaviks.proofs.Sections.{Sections, list-length}
@@ -82,5 +82,5 @@ answered-passed room file c a = go (fileVerdict room file) a
 
 -- demand 3, of words that are the reduced list
 pub accepted-preserved : {room : Bool} {file words : List ℕ} → Accepted room file → words ≡ fileReduced file → AllScalar (listIn file)
-    → (m : Meaning) (start : State) → EndsEqual (settingsIn file) (run m (listIn file) start) (run m words start)
-accepted-preserved {file = file} a e = rw e (preserved (settingsIn file) (listIn file) (tableIn file) (a .passing))
+    → RunsEqual (settingsIn file) (listIn file) words
+accepted-preserved {file = file} a e = rw e (runs-equal (settingsIn file) (listIn file) (tableIn file) (a .passing))

@@ -15,7 +15,7 @@ use Rattle.mir.specs.Answers.{Report, answered, refused, unless}
 use Rattle.mir.specs.Questions.{refusal}
 use Rattle.passes.specs.Contract.{countsOf, wordsOf, reduced, coloursOf, membersOf}
 use Rattle.passes.specs.Create.{endsOf}
-use Rattle.passes.specs.Machine.{Meaning, State, run, AllScalar, EndsEqual}
+use Rattle.passes.specs.Machine.{AllScalar, RunsEqual}
 
 -- a flag is set if its word isn't 0
 abbrev pub flag : ℕ → Bool
@@ -65,5 +65,4 @@ pub record RudzaviksOptimize (s : Settings) (list table : List ℕ) (held : Lent
   pub preserved :
       verdictWith s list table held heldCounts ≡ Passed
       → AllScalar list
-      → (m : Meaning) (start : State)
-      → EndsEqual s (run m list start) (run m (take (given * 8) (now .out)) start)
+      → RunsEqual s list (take (given * 8) (now .out))

@@ -14,7 +14,7 @@ use Rattle.mir.specs.Answers.{unless}
 use Rattle.mir.specs.Questions.{refusal}
 use Rattle.passes.specs.declared.alloc.Outcome.the-variants.{Kept}
 use Rattle.passes.specs.Contract.{countsOf, reduced, countOf}
-use Rattle.passes.specs.Machine.{Meaning, State, run, AllScalar, EndsEqual}
+use Rattle.passes.specs.Machine.{AllScalar, RunsEqual}
 use Rattle.rudzaviks.specs.declared.file.Layout.{Layout}
 use Rattle.rudzaviks.specs.declared.file.Layout.the-variants.{Counts, Bad}
 use Rattle.rudzaviks.specs.Exports.{settingsOf, reportWord, recordsWord}
@@ -85,8 +85,7 @@ pub record FileReduced (file held now : List ℕ) (given : Answer) : Type 0 wher
   pub preserved :
       wordsVerdict file held ≡ Passed
       → AllScalar (listIn file)
-      → (m : Meaning) (start : State)
-      → EndsEqual (settingsIn file) (run m (listIn file) start) (run m (take (recordsIn (report given) * 8) now) start)
+      → RunsEqual (settingsIn file) (listIn file) (take (recordsIn (report given) * 8) now)
 
 -- the file reduced into bytes: question 4 asks for 4 bytes, and 32 for each record of the file
 abbrev pub bytesVerdict : List ℕ → List ℕ → Verdict
@@ -104,5 +103,4 @@ pub record RudzaviksReduce (file held now : List ℕ) (given : ℕ) : Type 0 whe
   pub preserved :
       bytesVerdict file held ≡ Passed
       → AllScalar (listIn file)
-      → (m : Meaning) (start : State)
-      → EndsEqual (settingsIn file) (run m (listIn file) start) (run m (wordsIn now 1 (given * 8)) start)
+      → RunsEqual (settingsIn file) (listIn file) (wordsIn now 1 (given * 8))
