@@ -205,7 +205,7 @@ pub enum Instruction {
     Call { label: u32, num_args: u32 },
     /// `%0 := %1 * %2 + %3`
     Fused { op: FusedOp, dst: Reg, a: Reg, b: Reg, c: Reg },
-    /// `%0 := Mem[3] ? %1 : %2`
+    /// `%0 := Mem[3] ? %1 : %2`; a word that is 0 or minus zero picks `false_val`
     IfElse { dst: Reg, true_val: Reg, false_val: Reg, cond: Loc },
     /// `7:`
     Label { label: u32 },

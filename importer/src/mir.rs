@@ -131,7 +131,7 @@ pub fn save_args_complex(num_args: u8, ultra: bool) -> Instruction {
     Instruction::SaveArgs { num_args, complex: true, ultra }
 }
 
-/// `dst := cond ? true_val : false_val`
+/// `dst := cond ? true_val : false_val`; a word that is 0 or minus zero picks `false_val`
 pub fn ifelse(dst: Reg, true_val: Reg, false_val: Reg, cond: Loc) -> Instruction {
     Instruction::IfElse { dst, true_val, false_val, cond }
 }

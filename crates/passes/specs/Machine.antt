@@ -1,5 +1,5 @@
--- Public, document 01, section 5: the plain machine for demand 3. What it runs over may be values of any type; section 5's own
--- has words of 64 bits, and the test of IfElse that document 02's request 2 gives it.
+-- Public, document 01, section 5: the plain machine for demand 3. It is defined over values of any type; section 5's own has
+-- words of 64 bits, and the test of IfElse as document 02's request 2 amends it.
 use Prim.Native.Nat.{ℕ, zero, suc, _<_, _≤_, _^_}
 use mathlib.Core.Bool.{Bool, true, false, cond, _&&_, _||_, not}
 use mathlib.Core.List.{List, [], _∷_}
@@ -12,8 +12,8 @@ use Rattle.mir.specs.Folds.{allBelow}
 use Rattle.mir.specs.Questions.{refusal}
 use Rattle.mir.specs.Records.{records, recordAt, wordAt, fixedMark}
 
--- what is done with values: a value of an operation and its operands, and IfElse's value of its condition, true_val and
--- false_val
+-- arbitrary meanings of the operations: a value of an operation and its operands' values; and of IfElse: a value of the
+-- condition's, true_val's and false_val's
 pub record Meaning (Value : Type 0) : Type 0 where
   pub uni : ℕ → Value → Value
   pub bi : ℕ → Value → Value → Value
@@ -98,7 +98,7 @@ pub record Word : Type 0 where
 abbrev pub isTrue : Word → Bool
 isTrue w = not (eqb (w .number) 0 || eqb (w .number) 0x8000000000000000)
 
--- over words, with any U, B and F
+-- with words for values, any U, B and F, and that test
 abbrev pub onWords : (ℕ → Word → Word) → (ℕ → Word → Word → Word) → (ℕ → Word → Word → Word → Word) → Meaning Word
 onWords U B F = record { uni = U; bi = B; fused = F; select = λ c a b. cond (isTrue c) a b }
 

@@ -1,65 +1,110 @@
-//! A plain machine for scalar straight-line lists. What operations give is made up, but never alike
-//! by chance.
+//! The plain machine of docs/SPECIFICATION.md, section 5, for scalar straight-line lists. A seed
+//! stands for the state that a run starts from and for what the operations give. Of the words that
+//! it makes up one in four is 0 or minus zero; the others are hardly ever alike by chance.
 
-use std::collections::HashMap;
+use std::collections::{HashMap, HashSet};
 
 use rudzaviks::{Instruction, Loc, Reg};
 
-#[derive(Default)]
-pub struct Machine {
-    regs: HashMap<Reg, u64>,
-    cells: HashMap<Loc, u64>,
+pub const MINUS_ZERO: u64 = 0x8000_0000_0000_0000;
+
+/// The test of IfElse.
+fn is_true(word: u64) -> bool {
+    word != 0 && word != MINUS_ZERO
 }
 
-/// A word made of a text and words.
-fn mix(text: &str, words: &[u64]) -> u64 {
-    let bytes = text.bytes().map(u64::from).chain(words.iter().copied());
-    bytes.fold(0xcbf2_9ce4_8422_2325, |hash: u64, word| {
-        (hash ^ word).wrapping_mul(0x9e37_79b9_7f4a_7c15).rotate_left(31)
-    })
+#[derive(Default)]
+pub struct Machine {
+    seed: u64,
+    regs: HashMap<Reg, u64>,
+    cells: HashMap<Loc, u64>,
+    over: bool,
 }
 
 impl Machine {
+    pub fn new(seed: u64) -> Machine {
+        Machine { seed, ..Machine::default() }
+    }
+
+    /// A word made of a text and words.
+    fn word(&self, text: impl ToString, words: &[u64]) -> u64 {
+        let text = text.to_string();
+        let parts = text.bytes().map(u64::from).chain(words.iter().copied());
+        let hash = parts.fold(self.seed ^ 0xcbf2_9ce4_8422_2325, |hash: u64, part| {
+            (hash ^ part).wrapping_mul(0x9e37_79b9_7f4a_7c15).rotate_left(31)
+        });
+        match hash % 8 {
+            0 => 0,
+            1 => MINUS_ZERO,
+            _ => hash,
+        }
+    }
+
     pub fn reg(&self, reg: Reg) -> u64 {
-        self.regs.get(&reg).copied().unwrap_or_else(|| mix(&reg.to_string(), &[]))
+        self.regs.get(&reg).copied().unwrap_or_else(|| self.word(reg, &[]))
     }
 
     pub fn cell(&self, loc: Loc) -> u64 {
-        self.cells.get(&loc).copied().unwrap_or_else(|| mix(&loc.to_string(), &[]))
+        self.cells.get(&loc).copied().unwrap_or_else(|| self.word(loc, &[]))
+    }
+
+    pub fn set_cell(&mut self, loc: Loc, word: u64) {
+        self.cells.insert(loc, word);
+    }
+
+    /// The run has met End.
+    pub fn is_over(&self) -> bool {
+        self.over
     }
 
     fn op(&self, op: impl ToString, sources: &[Reg]) -> u64 {
         let words: Vec<u64> = sources.iter().map(|reg| self.reg(*reg)).collect();
-        mix(&op.to_string(), &words)
+        self.word(op, &words)
     }
 
-    /// Runs one instruction; End is passed over.
+    /// Runs one instruction, unless the run is over.
     pub fn run(&mut self, ins: &Instruction) {
-        let constant = |idx: u32| mix("consts", &[u64::from(idx)]);
+        if self.over {
+            return;
+        }
+        let constant = |idx: u32| self.word("consts", &[u64::from(idx)]);
         let (dst, value) = match *ins {
-            Instruction::Nop | Instruction::End => return,
-            Instruction::Save { src, loc } => {
-                self.cells.insert(loc, self.reg(src));
-                return;
-            }
+            Instruction::Nop => return,
+            Instruction::End => return self.over = true,
+            Instruction::Save { src, loc } => return self.set_cell(loc, self.reg(src)),
             Instruction::Uni { op, dst, s1 } => (dst, self.op(op, &[s1])),
             Instruction::Bi { op, dst, s1, s2 } => (dst, self.op(op, &[s1, s2])),
             Instruction::Mov { dst, s1 } => (dst, self.reg(s1)),
             Instruction::Load { dst, loc } => (dst, self.cell(loc)),
             Instruction::LoadConst { dst, idx } => (dst, constant(idx)),
             Instruction::Fused { op, dst, a, b, c } => (dst, self.op(op, &[a, b, c])),
-            Instruction::IfElse { dst, true_val, false_val, cond } => (
-                dst,
-                self.reg(if self.cell(cond).is_multiple_of(2) { true_val } else { false_val }),
-            ),
+            Instruction::IfElse { dst, true_val, false_val, cond } => {
+                (dst, self.reg(if is_true(self.cell(cond)) { true_val } else { false_val }))
+            }
             Instruction::LoadMath { op, dst, s1, loc } => {
-                (dst, mix(&op.to_string(), &[self.reg(s1), self.cell(loc)]))
+                (dst, self.word(op, &[self.reg(s1), self.cell(loc)]))
             }
             Instruction::LoadConstMath { op, dst, s1, idx } => {
-                (dst, mix(&op.to_string(), &[self.reg(s1), constant(idx)]))
+                (dst, self.word(op, &[self.reg(s1), constant(idx)]))
             }
             _ => panic!("{ins} is not of a straight list"),
         };
         self.regs.insert(dst, value);
+    }
+
+    /// Where two machines of one seed differ in what demand 3 is about: the named registers, Mem,
+    /// Param, and Stack below the mark.
+    pub fn difference(&self, other: &Machine, fixed_mark: u64) -> Option<String> {
+        let named = [Reg::Ret, Reg::Temp, Reg::Left, Reg::Right];
+        if let Some(reg) = named.into_iter().find(|reg| self.reg(*reg) != other.reg(*reg)) {
+            return Some(reg.to_string());
+        }
+        let written: HashSet<Loc> = self.cells.keys().chain(other.cells.keys()).copied().collect();
+        let looked_at = |loc: &Loc| match *loc {
+            Loc::Stack(index) => u64::from(index) < fixed_mark,
+            Loc::Mem(_) | Loc::Param(_) => true,
+        };
+        let differs = |loc: &Loc| looked_at(loc) && self.cell(*loc) != other.cell(*loc);
+        written.into_iter().find(differs).map(|loc| loc.to_string())
     }
 }

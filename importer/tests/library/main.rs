@@ -5,5 +5,6 @@ mod file;
 mod machine;
 mod outcomes;
 mod reduce;
+mod runs;
 mod support;
 mod text;

@@ -3,9 +3,8 @@
 use std::collections::HashSet;
 
 use crate::machine::Machine;
-use crate::support::{each_list, instructions, settings};
+use crate::support::{each_list, instructions, settings, straight_list};
 use harness::how_many;
-use harness::lists::{list, Profile};
 use harness::random::Random;
 use harness::run;
 use rudzaviks::{reduce, Counts, Instruction, Loc, Outcome, Reason, Reduced, Reg};
@@ -82,12 +81,15 @@ fn each_instruction_has_its_outcome() {
     });
 }
 
-/// Runs a list and its shortened one side by side, and compares the reasons with what is there.
-/// How many were compared.
-fn reasons_are_true(code: &[Instruction], reduced: &Reduced) -> u32 {
-    let (mut before, mut after) = (Machine::default(), Machine::default());
+/// Runs a list and its shortened one side by side, as far as End, and compares the reasons with
+/// what is there. How many were compared.
+fn reasons_are_true(seed: u64, code: &[Instruction], reduced: &Reduced) -> u64 {
+    let (mut before, mut after) = (Machine::new(seed), Machine::new(seed));
     let mut compared = 0;
     for (ins, outcome) in code.iter().zip(&reduced.outcomes) {
+        if before.is_over() {
+            break;
+        }
         match *outcome {
             Outcome::Kept(at) => after.run(&reduced.list[at]),
             Outcome::Dropped(Reason::Held { loc, reg }) => {
@@ -111,12 +113,11 @@ fn what_is_said_to_be_in_a_register_is_there() {
     let mut random = Random::new(96);
     let lists = how_many(20_000);
     let mut compared = 0;
-    for _ in 0..lists {
-        let profile = Profile::random(&mut random, 100).straight();
-        let list = list(&mut random, &profile);
+    for seed in 0..lists {
+        let list = straight_list(&mut random);
         let code = instructions(&list);
         let reduced = reduce(&code, &settings(&list)).expect("a list that passes");
-        compared += reasons_are_true(&code, &reduced);
+        compared += reasons_are_true(seed, &code, &reduced);
     }
-    assert!(u64::from(compared) > lists, "{compared}");
+    assert!(compared > lists, "{compared}");
 }

@@ -1,6 +1,6 @@
 //! The harness's lists as the library holds them.
 
-use harness::lists::{any_list, List};
+use harness::lists::{any_list, list, List, Profile};
 use harness::random::Random;
 use rudzaviks::record::Records;
 use rudzaviks::{Instruction, Settings};
@@ -24,4 +24,14 @@ pub fn each_list(seed: u64, lists: u64, most_records: u32, mut check: impl FnMut
     for _ in 0..lists {
         check(&any_list(&mut random, most_records));
     }
+}
+
+/// A list that the plain machine runs. Three in four have no End, so that a run gets far.
+pub fn straight_list(random: &mut Random) -> List {
+    let mut profile = Profile::random(random, 100).straight();
+    if random.percent(75) {
+        let [nop, end, ..] = &mut profile.weights;
+        (*nop, *end) = (*nop + *end, 0);
+    }
+    list(random, &profile)
 }

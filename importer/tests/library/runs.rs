@@ -1,0 +1,80 @@
+//! Runs on the plain machine: what a condition's word picks, that End stops a run, and that a list
+//! and its reduced list end equal.
+
+use crate::machine::{Machine, MINUS_ZERO};
+use crate::support::{instructions, settings, straight_list};
+use harness::how_many;
+use harness::random::Random;
+use rudzaviks::mir::{end, fmov, ifelse, reg, save_mem};
+use rudzaviks::{reduce, Instruction, Loc, Reg};
+
+fn run(code: &[Instruction], mut machine: Machine) -> Machine {
+    code.iter().for_each(|ins| machine.run(ins));
+    machine
+}
+
+#[test]
+fn zero_and_minus_zero_pick_false_val() {
+    assert_eq!(MINUS_ZERO, (-0.0f64).to_bits());
+    let picked = |word: u64| {
+        let mut machine = Machine::new(4);
+        machine.set_cell(Loc::Param(9), word);
+        let machine = run(&[ifelse(Reg::Ret, reg(1), reg(2), Loc::Param(9))], machine);
+        assert_ne!(machine.reg(reg(1)), machine.reg(reg(2)));
+        machine.reg(Reg::Ret) == machine.reg(reg(1))
+    };
+    for word in [0, MINUS_ZERO] {
+        assert!(!picked(word), "{word:x}");
+    }
+    for word in [1, 2, 1 << 32, MINUS_ZERO - 1, MINUS_ZERO + 1, f64::NAN.to_bits(), u64::MAX] {
+        assert!(picked(word), "{word:x}");
+    }
+}
+
+#[test]
+fn a_run_stops_at_end() {
+    let code = [fmov(Reg::Ret, reg(0)), end(), fmov(Reg::Temp, reg(0)), save_mem(reg(0), 1), end()];
+    let machine = run(&code, Machine::new(4));
+    assert!(machine.is_over());
+    let same = run(&code[..1], Machine::new(4));
+    assert_eq!(machine.difference(&same, 0), None);
+    let further = run(&code[2..3], run(&code[..1], Machine::new(4)));
+    assert_eq!(machine.difference(&further, 0), Some("%t".to_owned()));
+}
+
+/// How often a condition's word was 0, was minus zero, and was another.
+#[derive(Default)]
+struct Conditions([u64; 3]);
+
+impl Conditions {
+    fn meet(&mut self, ins: &Instruction, machine: &Machine) {
+        if let (Instruction::IfElse { cond, .. }, false) = (ins, machine.is_over()) {
+            self.0[match machine.cell(*cond) {
+                0 => 0,
+                MINUS_ZERO => 1,
+                _ => 2,
+            }] += 1;
+        }
+    }
+}
+
+#[test]
+fn a_list_and_its_reduced_list_end_equal() {
+    let mut random = Random::new(97);
+    let lists = how_many(200_000);
+    let mut met = Conditions::default();
+    for seed in 0..lists {
+        let list = straight_list(&mut random);
+        let (code, settings) = (instructions(&list), settings(&list));
+        let reduced = reduce(&code, &settings).expect("a list that passes").list;
+        let mut before = Machine::new(seed);
+        for ins in &code {
+            met.meet(ins, &before);
+            before.run(ins);
+        }
+        let after = run(&reduced, Machine::new(seed));
+        let difference = before.difference(&after, settings.fixed_mark());
+        assert_eq!(difference, None, "seed {seed}, {list:?}");
+    }
+    assert!(met.0.iter().all(|times| *times > lists / 20), "{:?}", met.0);
+}
