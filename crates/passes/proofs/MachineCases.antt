@@ -1,5 +1,6 @@
 -- The plain machine on small lists, at least one for each kind that it runs, with the words that it must leave; what a word
--- is, and which words are true; which lists demand 3 is about; and which differences `EndsEqual` tells, and which not.
+-- is, and which words are true; which lists demand 3 is about; which differences `EndsEqual` tells, and which not; and lists
+-- that `RunsEqual` tells apart.
 -- The lists by computation: each place starts with a word of its own, and an operation's word shows its operands in order.
 use Prim.Native.Nat.{ℕ, _+_, _-_, _*_, _%_, _<_, _≤_}
 use mathlib.Core.Bool.{Bool, true, false, cond}
@@ -195,7 +196,7 @@ scalar-cases = record { of-kinds = refl; every = refl; not-every = λ (h : false
 
 -- ---- what is equal at the end
 
--- two states that differ in one place alone, which has another word v in the first
+-- two states that differ in one place alone, which has another value v in the first
 module _ {Value : Type 0} (s : Settings) (st : State Value) (v : Value) where
   pub named-told : (r : ℕ) → 256 ≤ r → r ≤ 259 → (v ≡ st .reg r → ⊥) → EndsEqual s (write r v st) st → ⊥
   named-told r low high other h =

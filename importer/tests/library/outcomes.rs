@@ -111,7 +111,7 @@ fn reasons_are_true(seed: u64, code: &[Instruction], reduced: &Reduced) -> u64 {
 #[test]
 fn what_is_said_to_be_in_a_register_is_there() {
     let mut random = Random::new(96);
-    let lists = how_many(20_000);
+    let lists = how_many(100_000);
     let mut compared = 0;
     for seed in 0..lists {
         let list = straight_list(&mut random);

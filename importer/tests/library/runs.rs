@@ -1,5 +1,5 @@
-//! Runs on the plain machine: what a condition's word picks, that End stops a run, and that a list
-//! and its reduced list end equal.
+//! Runs on the plain machine: what a condition's word picks, that End stops a run, what two runs
+//! may differ in, and that a list and its reduced list end equal.
 
 use crate::machine::{Machine, MINUS_ZERO};
 use crate::support::{instructions, settings, straight_list};
@@ -40,6 +40,63 @@ fn a_run_stops_at_end() {
     assert_eq!(machine.difference(&same, 0), None);
     let further = run(&code[2..3], run(&code[..1], Machine::new(4)));
     assert_eq!(machine.difference(&further, 0), Some("%t".to_owned()));
+}
+
+#[test]
+fn what_an_instruction_writes_depends_on_all_that_it_reads() {
+    let stack = Loc::Stack(5);
+    for text in [
+        "%$ := Neg(%1)",
+        "%$ := %1 Minus %2",
+        "%$ := %1",
+        "%$ := Stack[5]",
+        "Mem[6] := %1",
+        "%$ := %1 * %2 - %3",
+        "%$ := %1 Times Stack[5]",
+        "%$ := %1 Times consts[5]",
+    ] {
+        let ins: Instruction = text.parse().expect("an instruction");
+        let plain = run(std::slice::from_ref(&ins), Machine::new(4));
+        for source in ins.sources() {
+            let other = run(&[fmov(source, reg(9)), ins.clone()], Machine::new(4));
+            assert!(plain.difference(&other, 0).is_some(), "{text} by {source}");
+        }
+        if text.contains(&stack.to_string()) {
+            let mut other = Machine::new(4);
+            other.set_cell(stack, 77);
+            let other = run(std::slice::from_ref(&ins), other);
+            assert!(plain.difference(&other, 0).is_some(), "{text} by {stack}");
+        }
+    }
+}
+
+#[test]
+fn named_registers_and_cells_below_the_mark_may_not_differ() {
+    let plain = Machine::new(4);
+    for named in [Reg::Ret, Reg::Temp, Reg::Left, Reg::Right] {
+        let other = run(&[fmov(named, reg(9))], Machine::new(4));
+        assert_eq!(plain.difference(&other, 0), Some(named.to_string()));
+        assert_eq!(other.difference(&plain, 0), Some(named.to_string()));
+    }
+    for (loc, told) in [
+        (Loc::Mem(0), true),
+        (Loc::Mem(u32::MAX), true),
+        (Loc::Param(0), true),
+        (Loc::Param(u32::MAX), true),
+        (Loc::Stack(0), true),
+        (Loc::Stack(15), true),
+        (Loc::Stack(16), false),
+        (Loc::Stack(u32::MAX), false),
+    ] {
+        let mut other = Machine::new(4);
+        other.set_cell(loc, 77);
+        let difference = told.then(|| loc.to_string());
+        assert_eq!(plain.difference(&other, 16), difference, "{loc}");
+        assert_eq!(other.difference(&plain, 16), difference, "{loc}");
+    }
+    let other = run(&[fmov(reg(1), reg(9))], Machine::new(4));
+    assert_ne!(plain.reg(reg(1)), other.reg(reg(1)));
+    assert_eq!(plain.difference(&other, 0), None);
 }
 
 /// How often a condition's word was 0, was minus zero, and was another.

@@ -26,7 +26,8 @@ pub fn each_list(seed: u64, lists: u64, most_records: u32, mut check: impl FnMut
     }
 }
 
-/// A list that the plain machine runs. Three in four have no End, so that a run gets far.
+/// A list that the plain machine runs. At least three in four have no End, so that a run gets far;
+/// Nop takes its weight, so that some kind has one.
 pub fn straight_list(random: &mut Random) -> List {
     let mut profile = Profile::random(random, 100).straight();
     if random.percent(75) {
