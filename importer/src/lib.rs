@@ -45,5 +45,5 @@ mod reduced;
 
 pub use ffi::{Counts, Refusal, Settings};
 pub use instruction::{ArithOp, BinOp, FusedOp, Instruction, Loc, Reg, UniOp};
-pub use outcome::{Outcome, Reason};
+pub use outcome::{Held, Outcome, Reason};
 pub use reduced::{reduce, Reduced};

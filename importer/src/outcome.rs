@@ -21,18 +21,25 @@ pub enum Outcome {
 pub enum Reason {
     /// A Nop does nothing.
     Nothing,
-    /// A load of what is in the register already. Of a complex value this is the real half.
-    Held {
-        /// Where the value comes from.
-        loc: Loc,
-        /// Where it is.
-        reg: Reg,
-    },
+    /// A load of what is in a register already.
+    Held(Held),
+    /// A load of a complex value, both halves of which are in registers already.
+    BothHeld(Held, Held),
     /// A move from a register to itself.
     OntoItself(Reg),
-    /// A save that no instruction left reads, at or above the fixed mark. Of a complex value this
-    /// is the half that is not read, or the first of both.
+    /// A save that no instruction left reads, at or above the fixed mark.
     Unread(Loc),
+    /// A save of a complex value there, of which no instruction left reads either half.
+    NeitherRead(Loc, Loc),
+}
+
+/// A location whose value is in a register.
+#[derive(Clone, Copy, Debug, PartialEq, Eq)]
+pub struct Held {
+    /// Where the value comes from.
+    pub loc: Loc,
+    /// Where it is.
+    pub reg: Reg,
 }
 
 impl fmt::Display for Outcome {
@@ -48,10 +55,16 @@ impl fmt::Display for Reason {
     fn fmt(&self, f: &mut fmt::Formatter) -> fmt::Result {
         match self {
             Reason::Nothing => write!(f, "does nothing"),
-            Reason::Held { loc, reg } => write!(f, "{loc} is already in {reg}"),
+            Reason::Held(Held { loc, reg }) => write!(f, "{loc} is already in {reg}"),
+            Reason::BothHeld(x, y) => {
+                write!(f, "{} is already in {}, and {} in {}", x.loc, x.reg, y.loc, y.reg)
+            }
             Reason::OntoItself(reg) => write!(f, "moves {reg} onto itself"),
             Reason::Unread(loc) => {
                 write!(f, "nothing kept reads {loc}, at or above the fixed mark")
+            }
+            Reason::NeitherRead(x, y) => {
+                write!(f, "nothing kept reads {x} or {y}, at or above the fixed mark")
             }
         }
     }
@@ -103,21 +116,25 @@ impl Colouring<'_> {
     fn step(&mut self, ins: &Instruction) -> Option<Reason> {
         match *ins {
             Instruction::Nop => Some(Reason::Nothing),
-            Instruction::Load { dst, loc } => self.write(dst, Some(loc)),
+            Instruction::Load { dst, loc } => self.write(dst, Some(loc)).map(Reason::Held),
             Instruction::LoadComplex { xd, yd, loc } => {
-                let found = self.write(xd, Some(loc));
-                self.write(yd, loc.imag());
-                found
+                let (x, y) = (self.write(xd, Some(loc)), self.write(yd, loc.imag()));
+                x.zip(y).map(|(x, y)| Reason::BothHeld(x, y))
             }
             Instruction::Mov { dst, s1 } => {
                 let source = self.source(s1);
                 self.write(dst, self.held_by(source));
                 (self.source(dst) == source).then_some(Reason::OntoItself(source))
             }
-            Instruction::Save { src, loc } => self.save(&[(src, loc)]),
+            Instruction::Save { src, loc } => {
+                self.save(&[(src, loc)]);
+                self.is_unread(loc).then_some(Reason::Unread(loc))
+            }
             Instruction::SaveComplex { xs, ys, loc } => {
                 let imag = loc.imag().expect("question 8 asks for a partner");
-                self.save(&[(xs, loc), (ys, imag)])
+                self.save(&[(xs, loc), (ys, imag)]);
+                let unread = self.is_unread(loc) && self.is_unread(imag);
+                unread.then_some(Reason::NeitherRead(loc, imag))
             }
             Instruction::Label { .. } | Instruction::Call { .. } => self.forget(),
             Instruction::Branch { .. } | Instruction::BranchIf { .. } => self.forget(),
@@ -145,18 +162,18 @@ impl Colouring<'_> {
         }
     }
 
-    /// Gives the next static its colour, with a location. The reason is that it was found.
-    fn write(&mut self, dst: Reg, loc: Option<Loc>) -> Option<Reason> {
+    /// Gives the next static its colour, with a location. The colour, if it was found.
+    fn write(&mut self, dst: Reg, loc: Option<Loc>) -> Option<Held> {
         let Reg::Gen(number) = dst else { return None };
         let colour = *self.colours.next().expect("a colour for each static");
         let reg = Reg::Gen(colour as u8);
         self.current[usize::from(number)] = reg;
         let held = std::mem::replace(&mut self.held[colour as usize], loc);
-        loc.filter(|_| held == loc).map(|loc| Reason::Held { loc, reg })
+        loc.filter(|_| held == loc).map(|loc| Held { loc, reg })
     }
 
-    /// Puts sources into locations. The reason is that one of them is not read.
-    fn save(&mut self, places: &[(Reg, Loc)]) -> Option<Reason> {
+    /// Puts sources into locations.
+    fn save(&mut self, places: &[(Reg, Loc)]) {
         for held in &mut self.held {
             *held = held.filter(|held| places.iter().all(|(_, loc)| loc != held));
         }
@@ -165,22 +182,14 @@ impl Colouring<'_> {
                 self.held[usize::from(colour)] = Some(*loc);
             }
         }
-        // Only the instruction's own location, which is the first, is compared with the mark.
-        self.own_cell(places[0].1)?;
-        let mut locs = places.iter().map(|(_, loc)| *loc);
-        locs.find(|loc| self.is_unread(*loc)).map(Reason::Unread)
     }
 
-    /// The index of a Stack cell at or above the fixed mark.
-    fn own_cell(&self, loc: Loc) -> Option<u32> {
-        match loc {
-            Loc::Stack(index) if u64::from(index) >= self.fixed_mark => Some(index),
-            _ => None,
-        }
-    }
-
+    /// Whether it is a Stack cell at or above the fixed mark, and is not read.
     fn is_unread(&self, loc: Loc) -> bool {
-        self.own_cell(loc).is_some_and(|index| !self.read.contains(&index))
+        match loc {
+            Loc::Stack(index) => u64::from(index) >= self.fixed_mark && !self.read.contains(&index),
+            Loc::Mem(_) | Loc::Param(_) => false,
+        }
     }
 
     fn forget(&mut self) -> Option<Reason> {

@@ -10,11 +10,10 @@ use rudzaviks::{file, text};
 
 const SAMPLE: &str = concat!(env!("CARGO_MANIFEST_DIR"), "/samples/volume.txt");
 
-/// Two lists that are reduced as the original does it, and then compute something else.
-const NOT_PROMISED: [&str; 2] = [
-    concat!(env!("CARGO_MANIFEST_DIR"), "/samples/branch.txt"),
-    concat!(env!("CARGO_MANIFEST_DIR"), "/samples/two_part.txt"),
-];
+const TWO_PART: &str = concat!(env!("CARGO_MANIFEST_DIR"), "/samples/two_part.txt");
+
+/// A list that is reduced as the original does it, and then computes something else.
+const NOT_PROMISED: &str = concat!(env!("CARGO_MANIFEST_DIR"), "/samples/branch.txt");
 
 /// What a run of the tool gave.
 struct RunOutput {
@@ -88,6 +87,25 @@ fn the_sample_is_shown_before_and_after() {
     assert_eq!(last, Some(counts));
 }
 
+/// A load of two halves stays if one of them is at hand, and goes if both are.
+#[test]
+fn the_two_part_sample_is_shown_before_and_after() {
+    let output = run(&["reduce", TWO_PART], b"").succeeds();
+    lines_fit(output.out());
+    for (number, mark, after) in [
+        (14, '|', "(%1 + %0*im) := Mem[0]"),
+        (16, '<', "dropped: nothing kept reads Stack[16] or Stack[17], at or above"),
+        (17, '<', "dropped: Stack[16] is already in %2, and Stack[17] in %1"),
+        (18, '|', "Mem[2] := (%2 + %1*im)"),
+    ] {
+        let mut lines = output.out().lines().map(str::trim_start);
+        let line = lines.find(|line| line.starts_with(&format!("{number}  "))).expect("its line");
+        assert!(line.ends_with(&format!(" {mark} {after}")), "{line}");
+    }
+    let counts = "8 instructions before, 6 after; dropped: 1 load, 1 save\n";
+    assert!(output.out().ends_with(counts), "{}", output.out());
+}
+
 /// The text with four spaces before each line.
 fn indented<'a>(lines: impl Iterator<Item = &'a str>) -> String {
     lines.map(|line| format!("    {line}").trim_end().to_string() + "\n").collect()
@@ -102,7 +120,7 @@ fn the_readme_shows_what_the_samples_give() {
     let output = run(&["reduce", SAMPLE], b"").succeeds();
     let shown = indented(output.out().lines());
     assert!(readme.contains(&shown), "the README should have:\n{shown}");
-    for sample in NOT_PROMISED {
+    for sample in [TWO_PART, NOT_PROMISED] {
         let output = run(&["reduce", sample], b"").succeeds();
         let lists = output.out().lines().skip_while(|line| !line.starts_with("line"));
         let shown = indented(lists.take_while(|line| !line.is_empty()));

@@ -84,7 +84,7 @@ module _ {s : Settings} {list table : List ℕ} {held : Lent} where
         colours = w .colours ∙ sym (ap (λ u. left u (coloursOf s list table) (held .colours)) v);
         ends = w .ends ∙ sym (ap (λ u. left u (endsOf list) (held .ends)) v);
         set = w .set ∙ sym (ap (λ u. left u (wordsOf (membersOf s list table)) (held .set)) v);
-        preserved = λ p scalar. subst (RunsEqual s list) (sym kept) (runs-equal s list table (passing s list table held p) scalar);
+        preserved = λ p straight. subst (RunsEqual s list) (sym kept) (runs-equal s list table (passing s list table held p) straight);
       }
     where
       kept : take (recordsIn (report (Reduced r)) * 8) (now .out) ≡ reduced s list table

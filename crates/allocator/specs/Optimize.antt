@@ -12,7 +12,7 @@ use Rattle.mir.specs.Answers.{Report, answered, refused, unless, over}
 use Rattle.mir.specs.Questions.{refusal}
 use Rattle.passes.specs.Contract.{reduced, coloursOf, membersOf, wordsOf, countsOf}
 use Rattle.passes.specs.Create.{endsOf}
-use Rattle.passes.specs.Machine.{AllScalar, RunsEqual}
+use Rattle.passes.specs.Machine.{AllStraight, RunsEqual}
 use Rattle.allocator.specs.declared.Answer.{Answer}
 use Rattle.allocator.specs.declared.Answer.the-variants.{Reduced, Refused}
 use Rattle.walks.specs.Lent.{Lent, valuesIn}
@@ -54,9 +54,9 @@ pub record Optimized (s : Settings) (list table : List ℕ) (held now : Lent) (g
   pub colours : now .colours ≡ left (verdictOf s list table held) (coloursOf s list table) (held .colours)
   pub ends : now .ends ≡ left (verdictOf s list table held) (endsOf list) (held .ends)
   pub set : now .set ≡ left (verdictOf s list table held) (wordsOf (membersOf s list table)) (held .set)
-  -- section 5: the run of an accepted list of scalar straight-line kinds, and the run of the first records that the
+  -- section 5: the run of an accepted list of straight kinds, and the run of the first records that the
   -- output now holds, as many as the answer counts, end equal
   pub preserved :
       verdictOf s list table held ≡ verdict.Passed
-      → AllScalar list
+      → AllStraight list
       → RunsEqual s list (take (recordsIn (report given) * 8) (now .out))

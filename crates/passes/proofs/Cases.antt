@@ -13,7 +13,7 @@ use Rattle.mir.specs.Records.{recordAt, fixedMark}
 use Rattle.mir.specs.Renaming.{gens, produced, renamed, staticsTo, regsTo}
 use Rattle.mir.specs.Shapes.{row, shapeOf, dests, sources, registers}
 use Rattle.passes.specs.Create.{consumed, endsTo, endsOf}
-use Rattle.passes.specs.Color.{pairsFrom, firstBelow, plainChoice, choose, afterDest, wordFor, afterDests, wordsFor, foundFirst}
+use Rattle.passes.specs.Color.{pairsFrom, firstBelow, plainChoice, choose, afterDest, wordFor, afterDests, wordsFor, foundAll}
 use Rattle.passes.specs.Color.{isMember, joined, colored, colorStep, colorTo}
 use Rattle.passes.specs.Contract.{outcomeOf, outAt, outcomeAt, reducedTo, reduced}
 
@@ -75,6 +75,6 @@ pub ten-cases : TenCases
 unfolding of caseF refusal recordRefusal recordNo fewRegisters fewArgs wellSized knownKind fieldsFit wordsFit pairsFit gensFit
     partnerFits sourcesNamed allBelow all firstRefusal recordAt fixedMark gens produced renamed staticsTo regsTo shapeOf
     dests sources registers consumed endsTo endsOf pairsFrom firstBelow plainChoice choose afterDest wordFor afterDests wordsFor
-    foundFirst isMember joined colored colorStep colorTo outcomeOf outAt outcomeAt reducedTo reduced
+    foundAll isMember joined colored colorStep colorTo outcomeOf outAt outcomeAt reducedTo reduced
 ten-cases =
     record { a = refl; b = refl; c = refl; d = refl; e = refl; f = refl; g = refl; h = refl; i = refl; j = refl }

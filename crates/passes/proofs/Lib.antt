@@ -19,9 +19,12 @@ pub mod Reduced
 pub mod Pigeon
 pub mod Pool
 pub mod NeverEmpty
+pub mod SameColours
 -- demand 3
 pub mod Sim
 pub mod Assign
+pub mod Writes
+pub mod Saves
 pub mod OneRecord
 pub mod Steps
 pub mod Runs

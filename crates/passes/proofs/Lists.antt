@@ -1,6 +1,6 @@
--- Twelve lists through the definitions, with what the original makes of each: the reduced list, the drops, the statics, and
--- the read set's members, whose order is document 01's rule, since the original has none.
--- By computation; the right sides are printed by the importer, from what the original leaves.
+-- Fifteen lists through the definitions, with what the original, amended by request 1, makes of each: the reduced list, the
+-- drops, the statics, and the read set's members, whose order is document 01's rule, since the original has none.
+-- By computation; the right sides are printed by the importer, from what the amended copy of the original leaves.
 use Prim.Native.Nat.{ℕ}
 use mathlib.Core.Bool.{Bool, true, false}
 use mathlib.Core.List.{List, [], _∷_, map, zip, zipWith}
@@ -19,7 +19,7 @@ use Rattle.passes.specs.declared.alloc.Outcome.the-variants.{Nop, Load, 
 use Rattle.passes.specs.declared.symbol.Loc.{Loc}
 use Rattle.passes.specs.Create.{consumed, endsTo, endsOf}
 use Rattle.passes.specs.Color.{Coloring, setup, pairsFrom, firstBelow, plainChoice, choose, afterDest, wordFor, afterDests, wordsFor}
-use Rattle.passes.specs.Color.{foundFirst, isMember, joined, colored, colorStep, colorTo}
+use Rattle.passes.specs.Color.{foundAll, isMember, joined, colored, colorStep, colorTo}
 use Rattle.passes.specs.Contract.{outcomeOf, outAt, outcomeAt, reducedTo, reduced, countTo, countOf}
 use Rattle.passes.proofs.Cases.{loadConst, load, save, mov, label, stack, mem}
 
@@ -173,7 +173,7 @@ droppedLoads =
     (loadConst 0 1 ∷ save 0 stack 16 ∷ load 1 stack 16 ∷ save 1 stack 17 ∷ save 0 stack 18 ∷ load 1 stack 17
     ∷ load 0 stack 18 ∷ save 0 stack 4294967295 ∷ save 1 stack 17 ∷ bi 0 ret 0 1 ∷ [])
 
--- SaveComplex below the mark of 22; with both halves read; with y's alone; with none, its LoadComplex being dropped
+-- SaveComplex stays below the mark of 22, with both halves read, with y's alone; it goes where its LoadComplex does
 pub complexMark : Input
 complexMark =
     input 3 3 true false false []
@@ -181,7 +181,7 @@ complexMark =
     ∷ saveComplex 0 1 stack 22 ∷ loadComplex 0 2 stack 22 ∷ loadComplex 1 2 stack 24 ∷ load 1 stack 27
     ∷ fused 0 ret 0 1 2 ∷ [])
 
--- LoadComplex goes if x is found, though y isn't or is named; it stays with a named x; SaveComplex clears both halves
+-- LoadComplex stays if x is found and y isn't, or if either is named; SaveComplex clears both halves
 pub complexLoads : Input
 complexLoads =
     input 4 0 false false false []
@@ -220,6 +220,29 @@ thirtyTwo =
     ∷ loadComplex 24 7 param 24 ∷ loadComplex 26 5 param 26 ∷ loadComplex 28 3 param 28 ∷ loadComplex 30 1 param 30
     ∷ load 0 param 31 ∷ loadConst 31 2 ∷ bi 2 0 31 0 ∷ save 0 mem 31 ∷ [])
 
+-- LoadComplex stays with x alone found, with y alone, with one found and the other named; it goes with both found
+pub foundHalves : Input
+foundHalves =
+    input 4 0 false false false []
+    (loadConst 0 1 ∷ save 0 stack 16 ∷ loadComplex 1 2 stack 16 ∷ loadComplex 0 3 stack 16
+    ∷ loadComplex ret 1 stack 16 ∷ loadComplex 1 left stack 16 ∷ loadComplex 2 2 stack 15 ∷ loadComplex 1 1 stack 16
+    ∷ complexBi 2 0 1 0 3 2 1 ∷ saveComplex 0 1 mem 0 ∷ [])
+
+-- a half that is found is read all the same where the load is put out: the Save to x's half stays, and the one to y's
+pub joiningHalves : Input
+joiningHalves =
+    input 3 0 false false false []
+    (loadConst 0 7 ∷ save 0 stack 16 ∷ loadComplex 1 2 stack 16 ∷ bi 2 0 1 2 ∷ save 0 stack 21
+    ∷ loadComplex 1 2 stack 20 ∷ complexBi 1 0 1 0 1 2 2 ∷ saveComplex 0 1 mem 0 ∷ [])
+
+-- SaveComplex stays with x's half read, with y's half read, one below the mark of 16; it goes with none read
+pub readHalves : Input
+readHalves =
+    input 3 0 false false false []
+    (loadComplex 0 1 mem 0 ∷ saveComplex 0 1 stack 15 ∷ saveComplex 0 1 stack 18 ∷ saveComplex 1 1 stack 20
+    ∷ saveComplex 1 0 stack 22 ∷ load ret stack 18 ∷ loadMath 2 2 0 stack 21 ∷ loadComplex 0 1 stack 22
+    ∷ complexBi 3 0 0 0 1 2 2 ∷ save 0 param 0 ∷ [])
+
 pub record StoredLists : Type 0 where
   pub named-registers :
       of namedRegisters
@@ -247,15 +270,16 @@ pub record StoredLists : Type 0 where
   pub complex-mark :
       of complexMark
       ≡ answered (flat (loadComplex 0 1 mem 0 ∷ saveComplex 0 1 stack 21 ∷ saveComplex 1 0 stack 24
-      ∷ loadComplex 2 1 stack 24 ∷ load 2 stack 27 ∷ fused 0 ret 0 2 1 ∷ []))
+      ∷ saveComplex 0 1 stack 26 ∷ loadComplex 2 1 stack 24 ∷ load 2 stack 27 ∷ fused 0 ret 0 2 1 ∷ []))
   pub complex-loads :
       of complexLoads
-      ≡ answered (flat (loadComplex 0 1 mem 4 ∷ save ret mem 5 ∷ complexBi 0 1 3 0 2 0 1 ∷ loadComplex left 2 mem 4
-      ∷ saveComplex 1 temp mem 4 ∷ saveComplex ret 0 param 4294967294 ∷ []))
+      ≡ answered (flat (loadComplex 0 1 mem 4 ∷ save ret mem 5 ∷ loadComplex 0 2 mem 4 ∷ complexBi 0 1 3 0 2 0 1
+      ∷ loadComplex left 2 mem 4 ∷ loadComplex 0 right mem 4 ∷ saveComplex 1 temp mem 4 ∷ loadComplex 1 0 mem 4
+      ∷ saveComplex ret 0 param 4294967294 ∷ []))
   pub same-register :
       of sameRegister
-      ≡ answered (flat (loadComplex 0 1 mem 0 ∷ loadComplex 0 0 param 0 ∷ complexBi 3 0 0 1 1 0 0 ∷ load 0 stack 16
-      ∷ saveComplex 0 0 mem 7 ∷ load 0 mem 7 ∷ []))
+      ≡ answered (flat (loadComplex 0 1 mem 0 ∷ loadComplex 0 0 param 0 ∷ complexBi 3 0 0 1 1 0 0
+      ∷ saveComplex 0 0 stack 16 ∷ load 0 stack 16 ∷ saveComplex 0 0 mem 7 ∷ load 0 mem 7 ∷ []))
   pub label-and-call :
       of labelAndCall
       ≡ answered (flat (load 0 mem 0 ∷ load 1 mem 1 ∷ end ∷ label 7 ∷ load 0 mem 1 ∷ call 7 4294967295 ∷ load 0 mem 1
@@ -272,6 +296,20 @@ pub record StoredLists : Type 0 where
       ∷ loadComplex 20 21 param 20 ∷ loadComplex 22 23 param 22 ∷ loadComplex 24 25 param 24
       ∷ loadComplex 26 27 param 26 ∷ loadComplex 28 29 param 28 ∷ loadComplex 30 31 param 30 ∷ loadConst 0 2
       ∷ bi 2 0 0 31 ∷ save 0 mem 31 ∷ []))
+  pub found-halves :
+      of foundHalves
+      ≡ answered (flat (loadConst 0 1 ∷ save 0 stack 16 ∷ loadComplex 0 1 stack 16 ∷ loadComplex ret 1 stack 16
+      ∷ loadComplex 0 left stack 16 ∷ loadComplex 2 0 stack 15 ∷ complexBi 2 3 0 0 1 0 1 ∷ saveComplex 3 0 mem 0
+      ∷ []))
+  pub joining-halves :
+      of joiningHalves
+      ≡ answered (flat (loadConst 0 7 ∷ save 0 stack 16 ∷ loadComplex 0 1 stack 16 ∷ bi 2 2 0 1 ∷ save 2 stack 21
+      ∷ loadComplex 0 2 stack 20 ∷ complexBi 1 0 1 2 0 2 2 ∷ saveComplex 0 1 mem 0 ∷ []))
+  pub read-halves :
+      of readHalves
+      ≡ answered (flat (loadComplex 0 1 mem 0 ∷ saveComplex 0 1 stack 15 ∷ saveComplex 0 1 stack 18
+      ∷ saveComplex 1 1 stack 20 ∷ load ret stack 18 ∷ loadMath 2 2 0 stack 21 ∷ complexBi 3 2 2 1 0 2 2
+      ∷ save 2 param 0 ∷ []))
 
 pub record StoredAccounts : Type 0 where
   pub named-registers :
@@ -300,16 +338,16 @@ pub record StoredAccounts : Type 0 where
       ((stack, 17) ∷ [])
   pub complex-mark :
       account complexMark
-      ≡ counts 0 1 0 2 ((0, 4) ∷ (1, 4) ∷ (0, 8) ∷ (1, 5) ∷ (2, 6) ∷ (1, 8) ∷ (2, 8) ∷ [])
+      ≡ counts 0 1 0 1 ((0, 4) ∷ (1, 4) ∷ (0, 8) ∷ (1, 5) ∷ (2, 6) ∷ (1, 8) ∷ (2, 8) ∷ [])
       ((mem, 0) ∷ (mem, 1) ∷ (stack, 24) ∷ (stack, 25) ∷ (stack, 27) ∷ [])
   pub complex-loads :
       account complexLoads
-      ≡ counts 0 4 0 0 ((0, 0) ∷ (1, 3) ∷ (0, 3) ∷ (2, 3) ∷ (1, 6) ∷ (3, 3) ∷ (2, 4) ∷ (0, 5) ∷ (1, 7) ∷ (0, 8)
+      ≡ counts 0 1 0 0 ((0, 0) ∷ (1, 3) ∷ (0, 3) ∷ (2, 3) ∷ (1, 6) ∷ (3, 3) ∷ (2, 4) ∷ (0, 5) ∷ (1, 7) ∷ (0, 8)
       ∷ (0, 9) ∷ [])
       ((mem, 4) ∷ (mem, 5) ∷ [])
   pub same-register :
       account sameRegister
-      ≡ counts 0 2 0 1 ((0, 0) ∷ (1, 2) ∷ (0, 1) ∷ (0, 2) ∷ (0, 2) ∷ (0, 3) ∷ (0, 4) ∷ (0, 6) ∷ (0, 7) ∷ (0, 8) ∷ [])
+      ≡ counts 0 2 0 0 ((0, 0) ∷ (1, 2) ∷ (0, 1) ∷ (0, 2) ∷ (0, 2) ∷ (0, 3) ∷ (0, 4) ∷ (0, 6) ∷ (0, 7) ∷ (0, 8) ∷ [])
       ((mem, 0) ∷ (mem, 1) ∷ (param, 0) ∷ (param, 1) ∷ (stack, 16) ∷ (mem, 7) ∷ [])
   pub label-and-call :
       account labelAndCall
@@ -330,13 +368,27 @@ pub record StoredAccounts : Type 0 where
       ∷ (param, 16) ∷ (param, 17) ∷ (param, 18) ∷ (param, 19) ∷ (param, 20) ∷ (param, 21) ∷ (param, 22) ∷ (param, 23)
       ∷ (param, 24) ∷ (param, 25) ∷ (param, 26) ∷ (param, 27) ∷ (param, 28) ∷ (param, 29) ∷ (param, 30) ∷ (param, 31)
       ∷ [])
+  pub found-halves :
+      account foundHalves
+      ≡ counts 0 2 0 0 ((0, 1) ∷ (0, 2) ∷ (1, 2) ∷ (0, 8) ∷ (1, 8) ∷ (1, 4) ∷ (0, 5) ∷ (2, 6) ∷ (0, 8) ∷ (0, 7)
+      ∷ (1, 8) ∷ (3, 9) ∷ (0, 9) ∷ [])
+      ((stack, 16) ∷ (stack, 17) ∷ (stack, 15) ∷ [])
+  pub joining-halves :
+      account joiningHalves
+      ≡ counts 0 0 0 0 ((0, 1) ∷ (0, 3) ∷ (1, 3) ∷ (2, 6) ∷ (0, 6) ∷ (2, 6) ∷ (0, 7) ∷ (1, 7) ∷ [])
+      ((stack, 16) ∷ (stack, 17) ∷ (stack, 20) ∷ (stack, 21) ∷ [])
+  pub read-halves :
+      account readHalves
+      ≡ counts 0 1 0 1 ((0, 6) ∷ (1, 4) ∷ (2, 8) ∷ (1, 8) ∷ (0, 8) ∷ (2, 8) ∷ (2, 9) ∷ [])
+      ((mem, 0) ∷ (mem, 1) ∷ (stack, 18) ∷ (stack, 21) ∷ [])
 
 pub stored-lists : StoredLists
 unfolding of namedRegisters moves firstFree olderHolder readByOthers droppedLoads complexMark complexLoads sameRegister
-    labelAndCall branches thirtyTwo refusal recordRefusal recordNo fewRegisters fewArgs wellSized knownKind fieldsFit wordsFit
-    pairsFit gensFit partnerFits sourcesNamed allBelow all firstRefusal recordAt fixedMark gens produced renamed staticsTo
-    regsTo shapeOf dests sources registers consumed endsTo endsOf pairsFrom firstBelow plainChoice choose afterDest wordFor
-    afterDests wordsFor foundFirst isMember joined colored colorStep colorTo outcomeOf outAt outcomeAt reducedTo reduced
+    labelAndCall branches thirtyTwo foundHalves joiningHalves readHalves refusal recordRefusal recordNo fewRegisters fewArgs
+    wellSized knownKind fieldsFit wordsFit pairsFit gensFit partnerFits sourcesNamed allBelow all firstRefusal recordAt
+    fixedMark gens produced renamed staticsTo regsTo shapeOf dests sources registers consumed endsTo endsOf pairsFrom
+    firstBelow plainChoice choose afterDest wordFor afterDests wordsFor foundAll isMember joined colored colorStep colorTo
+    outcomeOf outAt outcomeAt reducedTo reduced
 stored-lists =
     record {
       named-registers = refl;
@@ -351,13 +403,16 @@ stored-lists =
       label-and-call = refl;
       branches = refl;
       thirty-two = refl;
+      found-halves = refl;
+      joining-halves = refl;
+      read-halves = refl;
     }
 
 pub stored-accounts : StoredAccounts
 unfolding account namedRegisters moves firstFree olderHolder readByOthers droppedLoads complexMark complexLoads sameRegister
-    labelAndCall branches thirtyTwo zip zipWith recordAt fixedMark gens produced renamed staticsTo regsTo shapeOf dests sources
-    consumed endsTo endsOf pairsFrom firstBelow plainChoice choose afterDest wordFor afterDests wordsFor foundFirst isMember
-    joined colored colorStep colorTo outcomeOf outAt outcomeAt countTo countOf
+    labelAndCall branches thirtyTwo foundHalves joiningHalves readHalves zip zipWith recordAt fixedMark gens produced
+    renamed staticsTo regsTo shapeOf dests sources consumed endsTo endsOf pairsFrom firstBelow plainChoice choose afterDest
+    wordFor afterDests wordsFor foundAll isMember joined colored colorStep colorTo outcomeOf outAt outcomeAt countTo countOf
 stored-accounts =
     record {
       named-registers = refl;
@@ -372,4 +427,7 @@ stored-accounts =
       label-and-call = refl;
       branches = refl;
       thirty-two = refl;
+      found-halves = refl;
+      joining-halves = refl;
+      read-halves = refl;
     }

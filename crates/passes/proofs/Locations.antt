@@ -3,7 +3,7 @@
 -- By the laws of `map` and `set` at one colour.
 use Prim.Native.Nat.{ℕ, zero, suc}
 use mathlib.Core.Bool.{Bool, true, false, cond}
-use mathlib.Core.List.{List}
+use mathlib.Core.List.{List, [], _∷_, map}
 use mathlib.Core.Logic.{_⊎_, inl, inr, ⊎-elim}
 use mathlib.Core.Path.{_≡_, refl, sym, ap, _∙_}
 use lib.ListN.{length, getD, set, replicate, length-set, length-map, List·getD-map}
@@ -14,7 +14,7 @@ use Rattle.mir.proofs.Clash.{clash}
 use Rattle.passes.specs.declared.alloc.Alloc.{Alloc}
 use Rattle.passes.specs.declared.alloc.Held.the-variants.{Nothing, At}
 use Rattle.passes.specs.declared.symbol.Loc.{Loc}
-use Rattle.passes.specs.Color.{alloc, colourAt, holds, without, clear, give, updateAllocs, partner, blank}
+use Rattle.passes.specs.Color.{alloc, colourAt, sameLoc, holds, without, clear, give, updateAllocs, partner, blank}
 use Rattle.passes.proofs.Create.{set-cases}
 
 -- ---- clearing a location
@@ -49,6 +49,21 @@ give-length w l allocs = go (isGen w)
     go : (b : Bool) → length (cond b (set allocs w (alloc (colourAt allocs w .life) (At l))) allocs) ≡ length allocs
     go true = length-set allocs w _
     go false = refl
+
+-- clearing a location after another one was given is clearing it before
+map-set {ℓ} : {A : Type ℓ} (f : A → A) (xs : List A) (k : ℕ) (a : A) → map f (set xs k a) ≡ set (map f xs) k (f a)
+map-set f [] k a = refl
+map-set f (x ∷ xs) zero a = refl
+map-set f (x ∷ xs) (suc k) a = ap (λ r. f x ∷ r) (map-set f xs k a)
+
+pub clear-give : (w : ℕ) (l k : Loc) (allocs : List Alloc) → sameLoc l k ≡ false → clear k (give w l allocs) ≡ give w l (clear k allocs)
+clear-give w l k allocs apart = go (isGen w)
+  where
+    go : (b : Bool)
+        → clear k (cond b (set allocs w (alloc (colourAt allocs w .life) (At l))) allocs)
+        ≡ cond b (set (clear k allocs) w (alloc (colourAt (clear k allocs) w .life) (At l))) (clear k allocs)
+    go false = refl
+    go true = map-set (without k) allocs w (alloc (colourAt allocs w .life) (At l)) ∙ rw (apart, clear-life k allocs w)
 
 -- ---- the actions
 

@@ -15,10 +15,10 @@ use Rattle.mir.specs.Folds.{allBelow}
 use Rattle.mir.specs.Records.{recordAt, fixedMark}
 use Rattle.mir.proofs.Clash.{clash}
 use Rattle.mir.proofs.Records.{flat}
-use Rattle.passes.specs.Machine.{Meaning, State, write, store, effect, turn, runTo, run, Word, onWords, isScalar, AllScalar}
-use Rattle.passes.specs.Machine.{EndsEqual, RunsEqual}
+use Rattle.passes.specs.Machine.{Meaning, State, write, store, effect, turn, runTo, run, Word, onWords}
+use Rattle.passes.specs.Machine.{isScalar, AllScalar, isStraight, AllStraight, EndsEqual, RunsEqual}
 use Rattle.passes.proofs.Cases.{loadConst, load, save, mov, label, stack, mem}
-use Rattle.passes.proofs.Lists.{nop, end, uni, bi, fused, ifElse, loadMath, loadConstMath, param, ret, temp, left, right}
+use Rattle.passes.proofs.Lists.{nop, end, uni, bi, fused, ifElse, loadComplex, saveComplex, complexBi, loadMath, loadConstMath, param, ret, temp, left, right}
 
 -- ---- words
 
@@ -54,8 +54,15 @@ digits2 op a b = word (op * 10000 + a .number * 100 + b .number)
 pub digits3 : ℕ → Word → Word → Word → Word
 digits3 op a b c = word (op * 1000000 + a .number * 10000 + b .number * 100 + c .number)
 
+-- ComplexBi's two words: the second has a digit more
+pub digits4 : ℕ → Word → Word → Word → Word → Word
+digits4 op a b c d = word (op * 100000000 + a .number * 1000000 + b .number * 10000 + c .number * 100 + d .number)
+
+pub digits5 : ℕ → Word → Word → Word → Word → Word
+digits5 op a b c d = word (10000000000 + digits4 op a b c d .number)
+
 abbrev digits : Meaning Word
-digits = onWords digits1 digits2 digits3
+digits = onWords digits1 digits2 digits3 digits4 digits5
 
 -- the words at three Gen registers, the named ones, and two cells of each space
 pub record Words : Type 0 where
@@ -93,7 +100,14 @@ shown = run all-three (flat (ifElse 0 1 2 mem 7 ∷ [])) numbers .reg 0
   where
     all-three : Meaning ℕ
     all-three =
-        record { uni = λ op a. a; bi = λ op a b. a; fused = λ op a b c. a; select = λ c a b. c * 100 + a * 10 + b }
+        record {
+          uni = λ op a. a;
+          bi = λ op a b. a;
+          fused = λ op a b c. a;
+          complexX = λ op a b c d. a;
+          complexY = λ op a b c d. a;
+          select = λ c a b. c * 100 + a * 10 + b;
+        }
 
     numbers : State ℕ
     numbers = record { reg = λ r. r; cell = λ p i. i; const = λ k. k; over = false }
@@ -143,12 +157,21 @@ pub record MachineCases : Type 0 where
   pub of-select : shown ≡ 712
   pub of-load-math : after (loadMath 3 0 1 mem 1 ∷ []) ≡ gens 31141 11 12
   pub of-load-const-math : after (loadConstMath 2 0 1 3 ∷ []) ≡ gens 21163 11 12
+  -- a two-part load, from each space; into one register, where y's word stays
+  pub of-load-complex : after (loadComplex 0 1 stack 0 ∷ loadComplex 2 2 mem 0 ∷ loadComplex left right param 0 ∷ [])
+      ≡ words (30 ∷ 31 ∷ 41 ∷ []) (20 ∷ 21 ∷ 0 ∷ 4294967296 ∷ []) (30 ∷ 31 ∷ []) (40 ∷ 41 ∷ []) (0 ∷ 4294967296 ∷ [])
+  pub of-save-complex : after (saveComplex 1 0 stack 0 ∷ saveComplex 2 2 mem 0 ∷ saveComplex left ret param 0 ∷ [])
+      ≡ words (10 ∷ 11 ∷ 12 ∷ []) (20 ∷ 21 ∷ 22 ∷ 23 ∷ []) (11 ∷ 10 ∷ []) (12 ∷ 12 ∷ []) (22 ∷ 20 ∷ [])
+  -- both words are of the state before, also where x is a source; y's stays in one register
+  pub of-complex-bi : after (complexBi 3 1 0 0 1 2 ret ∷ []) ≡ gens 10310111220 310111220 12
+  pub complex-bi-named : after (complexBi 0 ret temp left right temp ret ∷ []) ≡ named 22232120 10022232120 22 23
+  pub complex-bi-one : after (complexBi 2 1 1 0 0 2 1 ∷ []) ≡ gens 10 10210101211 12
   -- each record runs on the state that the one before it left, and reads before it writes
   pub in-order : after (uni 1 0 0 ∷ uni 2 0 0 ∷ save 0 mem 1 ∷ mov 1 2 ∷ load 2 mem 1 ∷ [])
       ≡ words (310 ∷ 12 ∷ 310 ∷ []) (20 ∷ 21 ∷ 22 ∷ 23 ∷ []) (30 ∷ 31 ∷ []) (40 ∷ 310 ∷ []) (0 ∷ 4294967296 ∷ [])
 
 pub machine-cases : MachineCases
-unfolding word wordOf start digits1 digits2 digits3 seen after picked shown recordAt effect turn runTo run
+unfolding word wordOf start digits1 digits2 digits3 digits4 digits5 seen after picked shown recordAt effect turn runTo run
 machine-cases =
     record {
       no-record = refl;
@@ -176,15 +199,22 @@ machine-cases =
       of-select = refl;
       of-load-math = refl;
       of-load-const-math = refl;
+      of-load-complex = refl;
+      of-save-complex = refl;
+      of-complex-bi = refl;
+      complex-bi-named = refl;
+      complex-bi-one = refl;
       in-order = refl;
     }
 
--- ---- which lists demand 3 is about
+-- ---- which lists are scalar, and which demand 3 is about
+
+abbrev kinds : List ℕ
+kinds = 0 ∷ 1 ∷ 2 ∷ 3 ∷ 4 ∷ 5 ∷ 6 ∷ 7 ∷ 8 ∷ 9 ∷ 10 ∷ 11 ∷ 12 ∷ 13 ∷ 14 ∷ 15 ∷ 16 ∷ 17 ∷ 18 ∷ 19 ∷ 20 ∷ 21 ∷ []
 
 pub record ScalarCases : Type 0 where
-  -- kinds 0 to 21
   pub of-kinds :
-      map isScalar (0 ∷ 1 ∷ 2 ∷ 3 ∷ 4 ∷ 5 ∷ 6 ∷ 7 ∷ 8 ∷ 9 ∷ 10 ∷ 11 ∷ 12 ∷ 13 ∷ 14 ∷ 15 ∷ 16 ∷ 17 ∷ 18 ∷ 19 ∷ 20 ∷ 21 ∷ [])
+      map isScalar kinds
       ≡ true ∷ true ∷ true ∷ true ∷ true ∷ true ∷ true ∷ false ∷ false ∷ true ∷ false ∷ false ∷ false ∷ true ∷ true ∷ false ∷ false
       ∷ false ∷ true ∷ true ∷ false ∷ false ∷ []
   pub every : AllScalar (flat (nop ∷ save 0 mem 0 ∷ loadConstMath 0 0 0 0 ∷ end ∷ []))
@@ -193,6 +223,18 @@ pub record ScalarCases : Type 0 where
 pub scalar-cases : ScalarCases
 unfolding AllScalar allBelow recordAt
 scalar-cases = record { of-kinds = refl; every = refl; not-every = λ (h : false ≡ true). clash (cc) }
+
+pub record StraightCases : Type 0 where
+  pub of-kinds :
+      map isStraight kinds
+      ≡ true ∷ true ∷ true ∷ true ∷ true ∷ true ∷ true ∷ true ∷ true ∷ true ∷ false ∷ false ∷ false ∷ true ∷ true ∷ false ∷ false
+      ∷ false ∷ true ∷ true ∷ true ∷ false ∷ []
+  pub every : AllStraight (flat (loadComplex 0 1 mem 0 ∷ nop ∷ complexBi 0 0 1 0 1 0 1 ∷ saveComplex 0 1 mem 0 ∷ []))
+  pub not-every : AllStraight (flat (nop ∷ loadComplex 0 1 mem 0 ∷ label 7 ∷ [])) → ⊥
+
+pub straight-cases : StraightCases
+unfolding AllStraight allBelow recordAt
+straight-cases = record { of-kinds = refl; every = refl; not-every = λ (h : false ≡ true). clash (cc) }
 
 -- ---- what is equal at the end
 
@@ -247,27 +289,31 @@ pub returned : List (List ℕ) → ℕ
 returned recs = run digits (flat recs) (start false) .reg ret .number
 
 module _ (s : Settings) where
-  -- two lists that leave different words in Ret, under one U, B and F and from one state, are told apart
+  -- two lists that leave different words in Ret, under one meaning of the operations and from one state, are told apart
   lists-told : (a b : List (List ℕ)) → (returned a ≡ returned b → ⊥) → RunsEqual s (flat a) (flat b) → ⊥
   unfolding returned
   lists-told a b other h =
-      other (ap (λ (w : Word). w .number) (h digits1 digits2 digits3 (start false) .named ret (omega arith) (omega arith)))
+      other (ap (λ (w : Word). w .number) (h digits1 digits2 digits3 digits4 digits5 (start false) .named ret (omega arith) (omega arith)))
 
-  -- the two lists differ in U, B or F of their operands, in the state that they start from, or in what a condition picks
+  -- the two lists differ in U, B, F, X or Y of their operands, in the state that they start from, or in what a condition picks
   pub record ListsTold : Type 0 where
     pub by-uni : RunsEqual s (flat (uni 1 ret 0 ∷ [])) (flat (uni 2 ret 0 ∷ [])) → ⊥
     pub by-bi : RunsEqual s (flat (bi 1 ret 0 0 ∷ [])) (flat (bi 2 ret 0 0 ∷ [])) → ⊥
     pub by-fused : RunsEqual s (flat (fused 1 ret 0 0 0 ∷ [])) (flat (fused 2 ret 0 0 0 ∷ [])) → ⊥
+    pub by-complex-x : RunsEqual s (flat (complexBi 1 ret temp 0 0 0 0 ∷ [])) (flat (complexBi 2 ret temp 0 0 0 0 ∷ [])) → ⊥
+    pub by-complex-y : RunsEqual s (flat (complexBi 1 temp ret 0 0 0 0 ∷ [])) (flat (complexBi 2 temp ret 0 0 0 0 ∷ [])) → ⊥
     pub by-start : RunsEqual s (flat (mov ret 0 ∷ [])) [] → ⊥
     pub by-condition : RunsEqual s (flat (ifElse ret 1 2 mem 0 ∷ [])) (flat (mov ret 2 ∷ [])) → ⊥
 
   pub lists-are-told : ListsTold
-  unfolding word wordOf start digits1 digits2 digits3 returned recordAt effect turn runTo run
+  unfolding word wordOf start digits1 digits2 digits3 digits4 digits5 returned recordAt effect turn runTo run
   lists-are-told =
       record {
         by-uni = lists-told (uni 1 ret 0 ∷ []) (uni 2 ret 0 ∷ []) (λ (h : 110 ≡ 210). omega arith);
         by-bi = lists-told (bi 1 ret 0 0 ∷ []) (bi 2 ret 0 0 ∷ []) (λ (h : 11010 ≡ 21010). omega arith);
         by-fused = lists-told (fused 1 ret 0 0 0 ∷ []) (fused 2 ret 0 0 0 ∷ []) (λ (h : 1101010 ≡ 2101010). omega arith);
+        by-complex-x = lists-told (complexBi 1 ret temp 0 0 0 0 ∷ []) (complexBi 2 ret temp 0 0 0 0 ∷ []) (λ (h : 110101010 ≡ 210101010). omega arith);
+        by-complex-y = lists-told (complexBi 1 temp ret 0 0 0 0 ∷ []) (complexBi 2 temp ret 0 0 0 0 ∷ []) (λ (h : 10110101010 ≡ 10210101010). omega arith);
         by-start = lists-told (mov ret 0 ∷ []) [] (λ (h : 10 ≡ 20). omega arith);
         by-condition = lists-told (ifElse ret 1 2 mem 0 ∷ []) (mov ret 2 ∷ []) (λ (h : 11 ≡ 12). omega arith);
       }

@@ -92,7 +92,7 @@ module _ (s : Settings) (list table : List ℕ) (i : ℕ) where
   st = colorTo (setup s list table) i
 
   -- what is known before the choices of record i, and after them
-  abbrev BeforeAt : Type 0
+  abbrev pub BeforeAt : Type 0
   BeforeAt = Before (s .«count_regs») i (endsOf list) (destsAt (setup s list table) i st) (staticsTo list i) (regsTo list i) st
 
   abbrev pub AfterAt : Type 0
@@ -175,7 +175,10 @@ module _ (s : Settings) (list table : List ℕ) (passes : ListPasses s list tabl
   ready-to zero l = ready-first
   ready-to (suc i) l = ready-next s list table passes i (omega arith) (ready-to i (omega arith))
 
-  -- what the choices of record i leave known
+  -- what is known before the choices of record i, and what they leave known
+  pub before-of : (i : ℕ) → i < records list → BeforeAt s list table i
+  before-of i l = before s list table passes i l (ready-to i (omega arith))
+
   pub choices-of : (i : ℕ) → i < records list → AfterAt s list table i
   choices-of i l = done s list table passes i l (ready-to i (omega arith))
 

@@ -237,22 +237,22 @@ module _ (n i : ℕ) (E : List ℕ) where
   unfolding afterDest
   after-named w h st g = rw g
 
-  afters-gen : (w : ℕ) (h : Held) (ds : List (ℕ × Held)) (st : Coloring) → isGen w ≡ true
+  pub afters-gen : (w : ℕ) (h : Held) (ds : List (ℕ × Held)) (st : Coloring) → isGen w ≡ true
       → afterDests n i E ((w, h) ∷ ds) st ≡ afterDests n i E ds (given (colourFor h st) h st)
   unfolding afterDests
   afters-gen w h ds st g = ap (afterDests n i E ds) (after-gen w h st g)
 
-  afters-named : (w : ℕ) (h : Held) (ds : List (ℕ × Held)) (st : Coloring) → isGen w ≡ false → afterDests n i E ((w, h) ∷ ds) st ≡ afterDests n i E ds st
+  pub afters-named : (w : ℕ) (h : Held) (ds : List (ℕ × Held)) (st : Coloring) → isGen w ≡ false → afterDests n i E ((w, h) ∷ ds) st ≡ afterDests n i E ds st
   unfolding afterDests
   afters-named w h ds st g = ap (afterDests n i E ds) (after-named w h st g)
 
   -- the destinations' new words
-  words-gen : (w : ℕ) (h : Held) (ds : List (ℕ × Held)) (st : Coloring) → isGen w ≡ true
+  pub words-gen : (w : ℕ) (h : Held) (ds : List (ℕ × Held)) (st : Coloring) → isGen w ≡ true
       → wordsFor n i E ((w, h) ∷ ds) st ≡ colourFor h st ∷ wordsFor n i E ds (given (colourFor h st) h st)
   unfolding wordsFor wordFor colourFor
   words-gen w h ds st g = rw (after-gen w h st g, g)
 
-  words-named : (w : ℕ) (h : Held) (ds : List (ℕ × Held)) (st : Coloring) → isGen w ≡ false → wordsFor n i E ((w, h) ∷ ds) st ≡ w ∷ wordsFor n i E ds st
+  pub words-named : (w : ℕ) (h : Held) (ds : List (ℕ × Held)) (st : Coloring) → isGen w ≡ false → wordsFor n i E ((w, h) ∷ ds) st ≡ w ∷ wordsFor n i E ds st
   unfolding wordsFor wordFor
   words-named w h ds st g = rw (after-named w h st g, g)
 
@@ -266,7 +266,7 @@ module _ (n i : ℕ) (E : List ℕ) where
     tail-fits = and-both (genFits n w) (all (genFits n) (words ds)) (b .fit) .1
 
     module _ (g : isGen w ≡ true) where
-      inside : w < n
+      pub inside : w < n
       inside = gen-below n w head-fits (ltb-true w 256 g)
 
       -- the static that w holds is held by nobody once w is written
@@ -289,14 +289,14 @@ module _ (n i : ℕ) (E : List ℕ) where
               (λ (a : r ≡ w → ⊥). a (b .names .once r w s (sym (getD-set-other regs w r (Static m) Unset a) ∙ q) e))
               (same-or r w)
 
-      never : choose n i h (st .allocs) ≡ Empty → ⊥
+      pub never : choose n i h (st .allocs) ≡ Empty → ⊥
       never = choice-given n i E regs (st .colours) (st .allocs) (rw (b .next) (b .names)) (b .owned) w inside last (b .wide) (b .enough) h
 
-      c-below : colourFor h st < n
+      pub c-below : colourFor h st < n
       unfolding colourFor
       c-below = chosen-below n i E regs (st .colours) (st .allocs) (rw (b .next) (b .names)) (b .owned) w inside last (b .wide) (b .enough) h
 
-      before-rest : Before ds (suc m) (set regs w (Static m)) (given (colourFor h st) h st)
+      pub before-rest : Before ds (suc m) (set regs w (Static m)) (given (colourFor h st) h st)
       unfolding given words
       before-rest =
           record {
@@ -312,7 +312,7 @@ module _ (n i : ℕ) (E : List ℕ) where
             below = below-more n (st .colours) (colourFor h st) (b .below) c-below;
           }
 
-    before-named : isGen w ≡ false → Before ds m regs st
+    pub before-named : isGen w ≡ false → Before ds m regs st
     unfolding words
     before-named g =
         record {

@@ -1,4 +1,4 @@
--- Demand 3, `preserved`: for every list, table and settings that pass section 7 with scalar straight-line kinds only, over
+-- Demand 3, `preserved`: for every list, table and settings that pass section 7 with straight kinds only, over
 -- values of any type, under every meaning and from every state, the run of the list and the run of its reduced list end equal.
 -- By induction on the records: before each the two runs agree (`Running`), or both are over and ended equal (`Stopped`). A
 -- record's kind picks its step; what agrees at the end is the claim.
@@ -15,7 +15,7 @@ use Rattle.mir.specs.Records.{records, recordAt, wordAt, fixedMark}
 use Rattle.mir.specs.Renaming.{regsTo}
 use Rattle.mir.specs.Shapes.{row}
 use Rattle.mir.proofs.Clash.{clash}
-use Rattle.mir.proofs.Folds.{all-at}
+use Rattle.mir.proofs.Folds.{all-at, all-each}
 use Rattle.mir.proofs.Passing.{ListPasses, list-passes}
 use Rattle.mir.proofs.Records.{words-at}
 use Rattle.passes.specs.declared.alloc.Held.the-variants.{At}
@@ -23,7 +23,7 @@ use Rattle.passes.specs.declared.alloc.Outcome.the-variants.{Kept}
 use Rattle.passes.specs.declared.symbol.Loc.{Loc}
 use Rattle.passes.specs.Color.{Setup, setup, colorTo, colourAt, blank}
 use Rattle.passes.specs.Contract.{isKept, outcomeAt, outAt, reducedTo, reduced, countTo}
-use Rattle.passes.specs.Machine.{Meaning, State, turn, runTo, run, onWords, isScalar, AllScalar, Passing, EndsEqual, RunsEqual}
+use Rattle.passes.specs.Machine.{Meaning, State, turn, runTo, run, onWords, isScalar, AllScalar, isStraight, AllStraight, Passing, EndsEqual, RunsEqual}
 use Rattle.passes.proofs.OneRecord.{Running, Place}
 use Rattle.passes.proofs.Create.{not-fresh}
 use Rattle.passes.proofs.Lengths.{out-length, reduced-length}
@@ -67,9 +67,9 @@ module _ (s : Settings) (list table : List ℕ) (passes : ListPasses s list tabl
   unfolding turn
   over-stays rec A h = rw h
 
-  agree-next : (i : ℕ) → i < records list → isScalar (wordAt (recordAt list i) 0) ≡ true → AgreeTo i → AgreeTo (suc i)
+  agree-next : (i : ℕ) → i < records list → isStraight (wordAt (recordAt list i) 0) ≡ true → AgreeTo i → AgreeTo (suc i)
   unfolding runTo
-  agree-next i inside scalar k = rw (b-next i inside) (⊎-elim goes-on (λ (g : Stopped s (a-run i) (b-run i)). inr (stays (kept i) g)) k)
+  agree-next i inside straight k = rw (b-next i inside) (⊎-elim goes-on (λ (g : Stopped s (a-run i) (b-run i)). inr (stays (kept i) g)) k)
     where
       stays : (b : Bool) → Stopped s (a-run i) (b-run i) → Stopped s (turn m (recordAt list i) (a-run i)) (cond b (turn m (outAt made i) (b-run i)) (b-run i))
       stays true g = rw (over-stays (recordAt list i) (a-run i) (g .a-over), over-stays (outAt made i) (b-run i) (g .b-over)) g
@@ -80,7 +80,7 @@ module _ (s : Settings) (list table : List ℕ) (passes : ListPasses s list tabl
           let p : Place = record { s = s; list = list; table = table; passes = passes; i = i; inside = inside } in
           let r = recordAt list i in
           let w = wordAt r in
-          step m p g (w 1) (w 2) (w 3) (w 4) (w 5) (w 6) (w 7) (w 0) scalar (eight r (record-length list i inside))
+          step m p g (w 1) (w 2) (w 3) (w 4) (w 5) (w 6) (w 7) (w 0) straight (eight r (record-length list i inside))
 
   agree-first : AgreeTo zero
   unfolding runTo run reducedTo colorTo regsTo
@@ -110,19 +110,29 @@ module _ (s : Settings) (list table : List ℕ) (passes : ListPasses s list tabl
       go true h =
           inr (record { a-over = h; b-over = h; equal = record { named = λ r p q. refl; mem = λ k. refl; param = λ k. refl; stack = λ k l. refl } })
 
-  agree-to : ((i : ℕ) → i < records list → isScalar (wordAt (recordAt list i) 0) ≡ true) → (i : ℕ) → i ≤ records list → AgreeTo i
+  agree-to : ((i : ℕ) → i < records list → isStraight (wordAt (recordAt list i) 0) ≡ true) → (i : ℕ) → i ≤ records list → AgreeTo i
   agree-to h zero l = agree-first
   agree-to h (suc i) l = agree-next i (omega arith) (h i (omega arith)) (agree-to h i (omega arith))
 
-pub preserved : (s : Settings) (list table : List ℕ) → Passing s list table → AllScalar list → {Value : Type 0} (m : Meaning Value) (start : State Value)
+pub preserved : (s : Settings) (list table : List ℕ) → Passing s list table → AllStraight list → {Value : Type 0} (m : Meaning Value) (start : State Value)
     → EndsEqual s (run m list start) (run m (reduced s list table) start)
-unfolding Passing AllScalar run reduced
-preserved s list table passing scalar m start =
+unfolding Passing AllStraight run reduced
+preserved s list table passing straight m start =
     let n = records list in
-    let each = all-at (λ (j : ℕ). isScalar (wordAt (recordAt list j) 0)) n in
+    let each = all-at (λ (j : ℕ). isStraight (wordAt (recordAt list j) 0)) n in
     ⊎-elim (ends-equal s list table) (λ (g : Stopped s (runTo m list start n) (run m (reduced s list table) start)). g .equal)
-    (agree-to s list table (list-passes true s list table passing) m start (λ i l. each i scalar l) n (omega arith))
+    (agree-to s list table (list-passes true s list table passing) m start (λ i l. each i straight l) n (omega arith))
 
--- over words, as section 5 and request 2 have it
-pub runs-equal : (s : Settings) (list table : List ℕ) → Passing s list table → AllScalar list → RunsEqual s list (reduced s list table)
-runs-equal s list table passing scalar U B F = preserved s list table passing scalar (onWords U B F)
+-- over words, as section 5 and the requests have it
+pub runs-equal : (s : Settings) (list table : List ℕ) → Passing s list table → AllStraight list → RunsEqual s list (reduced s list table)
+runs-equal s list table passing straight U B F X Y = preserved s list table passing straight (onWords U B F X Y)
+
+-- a list of scalar straight-line kinds, document 01's, is among them
+scalar-kind : (k : ℕ) → isScalar k ≡ true → isStraight k ≡ true
+scalar-kind k h = rw h
+
+pub scalar-is-straight : (list : List ℕ) → AllScalar list → AllStraight list
+unfolding AllScalar AllStraight
+scalar-is-straight list h =
+    let kind : ℕ → ℕ = λ j. wordAt (recordAt list j) 0 in
+    all-each (λ j. isStraight (kind j)) (records list) (λ j l. scalar-kind (kind j) (all-at (λ (n : ℕ). isScalar (kind n)) (records list) j h l))

@@ -1,14 +1,15 @@
--- Each scalar straight-line kind takes two runs that agree before its record to two that agree after it.
--- The seven kinds that compute a value, and Mov and Load, write one register, which is one law (`writes`); Save writes a
--- cell; Nop does nothing, and End stops both runs.
-use Prim.Native.Nat.{ℕ, zero, suc, _≤_, _<_}
-use mathlib.Core.Bool.{Bool, true, false, cond, _&&_, _||_, not}
+-- Each straight kind takes two runs that agree before its record to two that agree after it.
+-- Nine kinds compute values, and Mov and both loads copy one: they write registers, which is one law (`writes`). The saves
+-- write cells; Nop does nothing, and End stops both runs.
+use Prim.Native.Nat.{ℕ, zero, suc, _+_, _≤_}
+use mathlib.Core.Bool.{Bool, true, false, cond, _&&_, _||_, not, and-false}
 use mathlib.Core.List.{List, [], _∷_}
 use mathlib.Core.Logic.{_⊎_, inl, inr, ⊎-elim}
-use mathlib.Core.Path.{_≡_, refl, sym, ap, fun-ext, _∙_}
+use mathlib.Core.Path.{_≡_, refl, sym, ap, _∙_}
 use native.Mathlib.Omega.{arith}
 use lib.Dec.{eqb, leb}
-use borrow.Author.Tests.{eqb-true, leb-true, lt-leb}
+use lib.ListN.{length}
+use borrow.Author.Tests.{eqb-true, ne-eqb, leb-true, le-leb, lt-leb}
 use Rattle.mir.specs.declared.config.Settings.{Settings}
 use Rattle.mir.specs.declared.shape.Action.the-variants as action
 use Rattle.mir.specs.Records.{isGen, fixedMark}
@@ -16,26 +17,23 @@ use Rattle.mir.specs.Shapes.{row, shapeOf, shapeFor, dests, sources}
 use Rattle.mir.proofs.Clash.{clash}
 use Rattle.mir.proofs.Renaming.{and-both}
 use Rattle.passes.specs.declared.alloc.Alloc.{Alloc}
-use Rattle.passes.specs.declared.alloc.Choice.{Choice}
-use Rattle.passes.specs.declared.alloc.Choice.the-variants.{Found, Free, Empty}
 use Rattle.passes.specs.declared.alloc.Held.{Held}
 use Rattle.passes.specs.declared.alloc.Held.the-variants.{Nothing, At}
 use Rattle.passes.specs.declared.alloc.Outcome.{Outcome}
 use Rattle.passes.specs.declared.alloc.Outcome.the-variants as outcome
 use Rattle.passes.specs.declared.symbol.Loc.{Loc}
-use Rattle.passes.specs.Color.{loc, colourAt, isFound, heldBy, holds, clear, give, isMember, wordFor, wordsFor, foundFirst, foundAt, colored}
+use Rattle.passes.specs.Color.{loc, heldBy, clear, give, updateAllocs, isMember, wordFor, wordsFor, foundAt, colored}
 use Rattle.passes.specs.Contract.{outcomeOf, outAt, outcomeAt, isKept, readSet, isBeyond}
 use Rattle.passes.specs.Create.{endsOf}
-use Rattle.passes.specs.Machine.{Meaning, State, write, finish, effect, turn, isScalar, EndsEqual}
-use Rattle.passes.proofs.OneRecord.{Running, Place, OneDest, Before, count, made, state, rec, regs, src, choice, dst, Looked}
-use Rattle.passes.proofs.OneRecord.{source-same, source-small, cell-same, dest-after, none-after}
-use Rattle.passes.proofs.Assign.{Live, Lives, numberIn, heldIn}
-use Rattle.passes.proofs.Choice.{choose-found, loc-same}
+use Rattle.passes.specs.Machine.{Meaning, State, store, storeBoth, finish, effect, turn, isScalar, isStraight, EndsEqual}
+use Rattle.passes.proofs.OneRecord.{Running, Place, Before, count, made, state, rec, regs, src, wants, dsts, Looked}
+use Rattle.passes.proofs.OneRecord.{source-same, source-small, cell-same, dests-after, dests-same, none-after}
+use Rattle.passes.proofs.Assign.{Live, SimIn}
 use Rattle.passes.proofs.Create.{In}
-use Rattle.passes.proofs.Locations.{give-life, clear-life, saved-holds}
+use Rattle.passes.proofs.Locations.{clear-give}
 use Rattle.passes.proofs.ReadSet.{InLocs, readsAt}
-use Rattle.passes.proofs.Sim.{SameCell, Stored, sim-next, into-cell, stored-at, stored-else}
-use Rattle.passes.proofs.Update.{upd-own}
+use Rattle.passes.proofs.Saves.{savedTo, live-save, sim-store, sim-unseen}
+use Rattle.passes.proofs.Writes.{Valued, writeAll, any-values, write-self}
 
 -- both runs are over, and ended equal
 pub record Stopped {Value : Type 0} (s : Settings) (A B : State Value) : Type 0 where
@@ -57,11 +55,9 @@ module _ (s : Settings) (list table : List ℕ) where
         stack = λ x h. g .sim .cells 0 x (inl (rw (lt-leb (fixedMark s) x h)));
       }
 
--- writing a register's own value changes nothing
-write-self : {Value : Type 0} (B : State Value) (w : ℕ) (v : Value) → B .reg w ≡ v → B ≡ write w v B
-write-self B w v h =
-    let f : B .reg ≡ (λ (r : ℕ). cond (eqb r w) v (B .reg r)) = fun-ext (upd-own (B .reg) w v h) in
-    λ k. record { reg = f k; cell = B .cell; const = B .const; over = B .over }
+neither : (a b : Bool) → not (a || b) ≡ true → (not a ≡ true) × (not b ≡ true)
+neither true b h = clash (cc)
+neither false b h = (refl, h)
 
 -- a record with an outcome of its own in case b
 kept-unless : (b : Bool) (o : Outcome) → isKept o ≡ false → isKept (cond b o outcome.Kept) ≡ not b
@@ -100,6 +96,15 @@ module _ (P : ℕ → Type 0) where
       (at-kind k 18 p18) (or-cases (leb k 6 || eqb k 9 || eqb k 13 || eqb k 14) (eqb k 18) a))
       (at-kind k 19 p19) (or-cases (leb k 6 || eqb k 9 || eqb k 13 || eqb k 14 || eqb k 18) (eqb k 19) h)
 
+  -- the straight kinds: the scalar ones, 7, 8 and 20
+  by-straight : ((k : ℕ) → isScalar k ≡ true → P k) → P 7 → P 8 → P 20 → (k : ℕ) → isStraight k ≡ true → P k
+  by-straight scalar p7 p8 p20 k h =
+      ⊎-elim
+      (λ a. ⊎-elim
+      (λ b. ⊎-elim (scalar k) (at-kind k 7 p7) (or-cases (isScalar k) (eqb k 7) b))
+      (at-kind k 8 p8) (or-cases (isScalar k || eqb k 7) (eqb k 8) a))
+      (at-kind k 20 p20) (or-cases (isScalar k || eqb k 7 || eqb k 8) (eqb k 20) h)
+
 module _ {Value : Type 0} (m : Meaning Value) (p : Place) {A B : State Value} (g : Before p A B) where
   abbrev kept : Bool
   kept = isKept (outcomeAt (fixedMark (p .s)) (made p) (p .i))
@@ -119,33 +124,36 @@ module _ {Value : Type 0} (m : Meaning Value) (p : Place) {A B : State Value} (g
   stepped : {A′ B′ : State Value} → effect m (rec p) A ≡ A′ → cond kept (effect m out B) B ≡ B′ → Agree (p .s) (p .list) (p .table) (suc (p .i)) A′ B′ → Steps
   stepped a b h = rw (goes (rec p) A (g .a-runs), goes out B (g .b-runs), a, b) h
 
-  -- ---- one register
+  -- ---- registers
 
-  -- the record writes the value v to d, which is wanted with h
-  record Writes (d : ℕ) (h : Held) (v : Value) : Type 0 where
-    pub dest : OneDest p d h
-    pub list-run : effect m (rec p) A ≡ write d v A
-    pub reduced-run : cond kept (effect m out B) B ≡ write (dst p d h) v B
-    pub found : (c : ℕ) → choice p h ≡ Found c → v ≡ B .reg c
-    pub holds : (l : Loc) → h ≡ At l → v ≡ A .cell (l .space) (l .index)
+  -- the record writes the values vs, and does nothing else to the colours
+  record Writes (vs : List Value) : Type 0 where
+    pub stays : (l : Loc) (x y : ℕ) (allocs : List Alloc) → updateAllocs (shapeFor (rec p) .action) l x y allocs ≡ allocs
+    pub valued : Valued (A .cell) (wants p) vs
+    pub list-run : effect m (rec p) A ≡ writeAll (dests (rec p)) vs A
 
-  writes : {d : ℕ} {h : Held} {v : Value} → Writes d h v → Steps
-  writes {v = v} w = stepped (w .list-run) (w .reduced-run) (inl (dest-after (w .dest) g v (w .found) (w .holds)))
+  writes : {vs : List Value} → Writes vs → cond kept (effect m out B) B ≡ writeAll (dsts p) vs B → Steps
+  writes {vs} w run = stepped (w .list-run) run (inl (dests-after p (w .stays) g vs (w .valued)))
 
-  -- v is computed: d is wanted with nothing, and the record is kept
-  computes : (d : ℕ) (v : Value) → dests (rec p) ≡ d ∷ [] → shapeFor (rec p) .action ≡ action.Other → kept ≡ true
-      → effect m (rec p) A ≡ write d v A → effect m out B ≡ write (dst p d Nothing) v B → Steps
-  computes d v one other stays a b =
+  -- they are computed: the destinations are wanted with nothing, and the record is kept
+  computes : (vs : List Value) → length (dests (rec p)) ≡ length vs → shapeFor (rec p) .action ≡ action.Other → kept ≡ true
+      → effect m (rec p) A ≡ writeAll (dests (rec p)) vs A → effect m out B ≡ writeAll (dsts p) vs B → Steps
+  computes vs all other stays a b =
       writes
-      (record {
-        dest = record { one = one; stays = λ l x y allocs. rw other; want = rw other };
-        list-run = a;
-        reduced-run = rw stays b;
-        found = λ c q.
-            let f = choose-found (count p) (p .i) (state p .allocs) Nothing c q .1 .1 in
-            clash (cc);
-        holds = λ l q. clash (cc);
-      })
+      (record { stays = λ l x y allocs. rw other; valued = rw other (any-values (A .cell) (dests (rec p)) vs all); list-run = a })
+      (rw stays b)
+
+  -- they are loaded: a found colour has the cell's value already, and the record is dropped if all were found; else every
+  -- location joins the read set, so that the cells are the same in both runs
+  abbrev found : Bool
+  found = foundAt (made p) (p .i) (state p)
+
+  loads : (vs : List Value) → Writes vs → ((b : Bool) → found ≡ b → kept ≡ not b) → (found ≡ false → effect m out B ≡ writeAll (dsts p) vs B) → Steps
+  loads vs w stays reads = writes w (rw (stays found refl) (go found refl))
+    where
+      go : (b : Bool) → found ≡ b → cond (not b) (effect m out B) B ≡ writeAll (dsts p) vs B
+      go true q = sym (dests-same p (w .stays) g vs (w .valued) q)
+      go false q = reads q
 
   -- what a source and a cell are in the reduced run
   same : (w : ℕ) → In w (sources (rec p)) → A .reg w ≡ B .reg (src p w)
@@ -158,72 +166,35 @@ module _ {Value : Type 0} (m : Meaning Value) (p : Place) {A B : State Value} (g
     abbrev Is : ℕ → Type 0
     Is k = rec p ≡ row k w1 w2 w3 w4 w5 w6 w7
 
-    -- ---- Load: a found colour has the cell's value already, and the record is dropped; else the location joins the read
-    -- set, so the cell is the same in both runs
+    -- ---- the loads, by whether the destination is wanted with the cell that it gets
 
-    module _ (e : Is 5) where
-      abbrev cell : Held
-      cell = At (loc w2 w3)
+    abbrev at : (q x : ℕ) → Held
+    at q x = At (loc q x)
 
-      abbrev dropped : Bool
-      dropped = isGen w1 && isFound (choice p cell)
+    its-cell : (q x : ℕ) (l : Loc) → at q x ≡ At l → A .cell q x ≡ A .cell (l .space) (l .index)
+    its-cell q x l h =
+        let z : loc q x ≡ l = cc in
+        ap (λ (j : Loc). A .cell (j .space) (j .index)) z
 
-      load-found : foundAt (made p) (p .i) (state p) ≡ dropped
-      unfolding dests shapeOf foundFirst
-      load-found = rw e
+    load-step : Is 5 → Steps
+    unfolding dests sources shapeOf effect outAt colored wordsFor outcomeAt outcomeOf readsAt
+    load-step e =
+        loads (A .cell w2 w3 ∷ [])
+        (record { stays = λ l x y allocs. rw e; valued = rw e (its-cell w2 w3, tt); list-run = rw e })
+        (λ b q. rw (q, e) (kept-unless b outcome.Load refl))
+        (λ q.
+        let r : readsAt (made p) (p .i) ≡ loc w2 w3 ∷ [] = rw (q, e) in
+        rw (e, same-cell w2 w3 (rw r (inl refl))))
 
-      load-out : out ≡ row 5 (dst p w1 cell) w2 w3 w4 w5 w6 w7
-      unfolding dests sources shapeOf outAt colored wordsFor
-      load-out = rw e
-
-      load-kept : kept ≡ not dropped
-      unfolding outcomeAt outcomeOf shapeOf
-      load-kept = rw (load-out, load-found) (kept-unless dropped outcome.Load refl)
-
-      -- not found: the cell is read by both runs
-      load-cell : dropped ≡ false → A .cell w2 w3 ≡ B .cell w2 w3
-      unfolding readsAt shapeOf
-      load-cell q =
-          let reads-it : readsAt (made p) (p .i) ≡ loc w2 w3 ∷ [] = rw (load-found ∙ q, e) in
-          same-cell w2 w3 (rw reads-it (inl refl))
-
-      has : (c : ℕ) → choice p cell ≡ Found c → A .cell w2 w3 ≡ B .reg c
-      has c f =
-          let k = choose-found (count p) (p .i) (state p .allocs) cell c f in
-          sym (g .sim .held c (loc w2 w3) (k .0) (k .1 .2 ∙ sym (k .1 .1)))
-
-      load-run : cond kept (effect m out B) B ≡ write (dst p w1 cell) (A .cell w2 w3) B
-      unfolding effect wordFor
-      load-run = rw load-kept (go (isGen w1) refl (choice p cell) refl)
-        where
-          reads : dropped ≡ false → effect m out B ≡ write (dst p w1 cell) (A .cell w2 w3) B
-          reads q = rw (load-out, load-cell q)
-
-          go : (b : Bool) → isGen w1 ≡ b → (k : Choice) → choice p cell ≡ k → cond (not dropped) (effect m out B) B ≡ write (dst p w1 cell) (A .cell w2 w3) B
-          go true b (Found c) f = rw (b, f) (write-self B c (A .cell w2 w3) (sym (has c f)))
-          go true b (Free c) f =
-              let q : dropped ≡ false = rw (b, f) in
-              rw q (reads q)
-          go true b Empty f =
-              let q : dropped ≡ false = rw (b, f) in
-              rw q (reads q)
-          go false b k f =
-              let q : dropped ≡ false = rw b in
-              rw q (reads q)
-
-      load-step : Steps
-      unfolding dests shapeOf effect
-      load-step =
-          writes
-          (record {
-            dest = record { one = rw e; stays = λ l x y allocs. rw e; want = rw e };
-            list-run = rw e;
-            reduced-run = load-run;
-            found = has;
-            holds = λ l q.
-                let z : loc w2 w3 ≡ l = cc in
-                ap (λ (j : Loc). A .cell (j .space) (j .index)) z;
-          })
+    load-complex-step : Is 7 → Steps
+    unfolding dests sources shapeOf effect outAt colored wordsFor outcomeAt outcomeOf readsAt
+    load-complex-step e =
+        loads (A .cell w3 w4 ∷ A .cell w3 (w4 + 1) ∷ [])
+        (record { stays = λ l x y allocs. rw e; valued = rw e (its-cell w3 w4, (its-cell w3 (w4 + 1), tt)); list-run = rw e })
+        (λ b q. rw (q, e) (kept-unless b outcome.Load refl))
+        (λ q.
+        let r : readsAt (made p) (p .i) ≡ loc w3 w4 ∷ loc w3 (w4 + 1) ∷ [] = rw (q, e) in
+        rw (e, same-cell w3 w4 (rw r (inl refl)), same-cell w3 (w4 + 1) (rw r (inr (inl refl)))))
 
     -- ---- Mov: the source's colour has the value. If it holds a location, the colour that is found holds it too, and so has
     -- the value; a Mov onto itself is dropped, and would change nothing
@@ -232,26 +203,29 @@ module _ {Value : Type 0} (m : Meaning Value) (p : Place) {A B : State Value} (g
       abbrev held : Held
       held = heldBy (state p .allocs) (src p w2)
 
-      mov-out : out ≡ row 4 (dst p w1 held) (src p w2) w3 w4 w5 w6 w7
+      abbrev dst : ℕ
+      dst = wordFor (count p) (p .i) w1 held (state p)
+
+      mov-out : out ≡ row 4 dst (src p w2) w3 w4 w5 w6 w7
       unfolding dests sources shapeOf outAt colored wordsFor
       mov-out = rw e
 
-      mov-kept : kept ≡ not (eqb (dst p w1 held) (src p w2))
+      mov-kept : kept ≡ not (eqb dst (src p w2))
       unfolding outcomeAt outcomeOf shapeOf
-      mov-kept = rw mov-out (kept-unless (eqb (dst p w1 held) (src p w2)) outcome.Move refl)
+      mov-kept = rw mov-out (kept-unless (eqb dst (src p w2)) outcome.Move refl)
 
       moved : A .reg w2 ≡ B .reg (src p w2)
       unfolding sources shapeOf
       moved = same w2 (rw e (inl refl))
 
       -- dropped or not, the reduced run has the value in the destination
-      mov-run : cond kept (effect m out B) B ≡ write (dst p w1 held) (A .reg w2) B
-      unfolding effect
-      mov-run = rw mov-kept (go (eqb (dst p w1 held) (src p w2)) refl)
+      mov-run : cond kept (effect m out B) B ≡ writeAll (dsts p) (A .reg w2 ∷ []) B
+      unfolding dests sources shapeOf effect wordsFor
+      mov-run = rw mov-kept (go (eqb dst (src p w2)) refl)
         where
-          go : (b : Bool) → eqb (dst p w1 held) (src p w2) ≡ b → cond (not b) (effect m out B) B ≡ write (dst p w1 held) (A .reg w2) B
-          go true q = write-self B (dst p w1 held) (A .reg w2) (ap (B .reg) (eqb-true (dst p w1 held) (src p w2) q) ∙ sym moved)
-          go false q = rw (mov-out, ← moved)
+          go : (b : Bool) → eqb dst (src p w2) ≡ b → cond (not b) (effect m out B) B ≡ writeAll (dsts p) (A .reg w2 ∷ []) B
+          go true q = rw e (sym (write-self B dst (A .reg w2) (ap (B .reg) (eqb-true dst (src p w2) q) ∙ sym moved)))
+          go false q = rw (mov-out, e, ← moved)
 
       -- a source's colour that holds a location is one of the n, and has the cell's value
       source-holds : (l : Loc) → held ≡ At l → A .reg w2 ≡ A .cell (l .space) (l .index)
@@ -266,111 +240,144 @@ module _ {Value : Type 0} (m : Meaning Value) (p : Place) {A B : State Value} (g
 
       mov-step : Steps
       unfolding dests sources shapeOf effect
-      mov-step =
-          writes
-          (record {
-            dest = record { one = rw e; stays = λ l x y allocs. rw e; want = rw e };
-            list-run = rw e;
-            reduced-run = mov-run;
-            found = λ c f.
-                let k = choose-found (count p) (p .i) (state p .allocs) held c f in
-                source-holds (k .1 .0) (k .1 .1) ∙ sym (g .sim .held c (k .1 .0) (k .0) (k .1 .2));
-            holds = source-holds;
-          })
+      mov-step = writes (record { stays = λ l x y allocs. rw e; valued = rw e (source-holds, tt); list-run = rw e }) mov-run
 
-    -- ---- Save: both runs write the same value, unless nobody looks at the cell; the location is then held by the source's
-    -- colour alone
+    -- ---- the saves: both runs store the same values, unless nobody looks at the cells; each location is then held by its
+    -- source's colour alone
+
+    abbrev beyond : Loc → Bool
+    beyond = isBeyond (fixedMark (p .s))
+
+    abbrev member : Loc → Bool
+    member l = isMember l (readSet (made p))
+
+    unseen : (l : Loc) → beyond l ≡ true → not (member l) ≡ true → Looked p (l .space) (l .index) → ⊥
+    unseen l b c h =
+        ⊎-elim
+        (λ (k : beyond l ≡ false). clash (cc))
+        (λ (k : member l ≡ true).
+        let f : not true ≡ true = rw k at c in
+        clash (cc))
+        h
 
     module _ (e : Is 6) where
       abbrev l : Loc
       l = loc w2 w3
-
-      abbrev allocs : List Alloc
-      allocs = give (src p w1) l (clear l (state p .allocs))
 
       save-out : out ≡ row 6 (src p w1) w2 w3 w4 w5 w6 w7
       unfolding dests sources shapeOf outAt colored wordsFor
       save-out = rw e
 
       abbrev unread : Bool
-      unread = isBeyond (fixedMark (p .s)) l && not (isMember l (readSet (made p)))
+      unread = beyond l && not (member l)
 
       save-kept : kept ≡ not unread
       unfolding outcomeAt outcomeOf shapeOf
       save-kept = rw save-out (kept-unless unread outcome.Save refl)
 
-      saved : A .reg w1 ≡ B .reg (src p w1)
+      saved : B .reg (src p w1) ≡ A .reg w1
       unfolding sources shapeOf
-      saved = same w1 (rw e (inl refl))
+      saved = sym (same w1 (rw e (inl refl)))
 
-      save-live : Live (count p) (endsOf (p .list)) (regs p) (state p .colours) allocs
-      save-live = record { of = λ r t q. lives t (g .live .of r t q) }
-        where
-          lives : (t : ℕ) → Lives (count p) (endsOf (p .list)) (state p .colours) (state p .allocs) t → Lives (count p) (endsOf (p .list)) (state p .colours) allocs t
-          lives t h =
-              let k = numberIn (state p .colours) t in
-              record { long = rw (give-life (src p w1) l (clear l (state p .allocs)) k ∙ clear-life l (state p .allocs) k) (h .long); below = h .below }
-
-      save-holds : (k : ℕ) (j : Loc) → k < count p → heldIn allocs k ≡ At j
-          → (SameCell w2 w3 (j .space) (j .index) × (B .reg k ≡ A .reg w1)) ⊎ ((SameCell w2 w3 (j .space) (j .index) → ⊥) × (heldIn (state p .allocs) k ≡ At j))
-      save-holds k j h q = go (saved-holds (src p w1) l (state p .allocs) k j q)
-        where
-          go : ((k ≡ src p w1) × (l ≡ j)) ⊎ ((colourAt (state p .allocs) k .loc ≡ At j) × (holds (At j) l ≡ false))
-              → (SameCell w2 w3 (j .space) (j .index) × (B .reg k ≡ A .reg w1)) ⊎ ((SameCell w2 w3 (j .space) (j .index) → ⊥) × (heldIn (state p .allocs) k ≡ At j))
-          go (inl a) = inl ((ap (λ (x : Loc). x .space) (sym (a .1)), ap (λ (x : Loc). x .index) (sym (a .1))), rw (a .0) (sym saved))
-          go (inr a) = inr (apart, a .0)
-            where
-              apart : SameCell w2 w3 (j .space) (j .index) → ⊥
-              apart b =
-                  let f : holds (At j) l ≡ true = rw (b .0, b .1) (loc-same l) in
-                  clash (cc)
-
-      -- B′ is the reduced run's state after the record
-      save-after : {B′ : State Value} → B′ .over ≡ false → cond kept (effect m out B) B ≡ B′ → (Looked p w2 w3 → B′ .cell w2 w3 ≡ A .reg w1)
-          → ((q x : ℕ) → (SameCell w2 w3 q x → ⊥) → B′ .cell q x ≡ B .cell q x) → ((r : ℕ) → B′ .reg r ≡ B .reg r) → ((k : ℕ) → B′ .const k ≡ B .const k) → Steps
+      save-after : {B′ : State Value} → B′ .over ≡ false → cond kept (effect m out B) B ≡ B′
+          → SimIn (count p) (endsOf (p .list)) (Looked p) (suc (p .i)) (regs p) (state p .colours) (savedTo (src p w1) l (state p .allocs)) (store w2 w3 (A .reg w1) A) B′ → Steps
       unfolding dests sources shapeOf effect
-      save-after {B′} over run here other reg const =
-          let stored : Stored (count p) (Looked p) (heldIn (state p .allocs)) (heldIn allocs) B B′ w2 w3 (A .reg w1) =
-          record { reg = reg; const = const; here = here; other = other; holds = save-holds } in
-          stepped (rw e) run (inl (none-after p (rw e) no-reset (rw e) (g .a-runs) over (into-cell (omega arith) (g .sim) stored) save-live))
+      save-after over run sim =
+          stepped (rw e) run (inl (none-after p (rw e) (λ q. no-reset (rw e at q)) (rw e) (g .a-runs) over sim (live-save (src p w1) l (g .live))))
         where
-          no-reset : shapeFor (rec p) .action ≡ action.Clear → ⊥
-          no-reset q =
-              let f : action.Save ≡ action.Clear = rw e at q in
-              clash (cc)
+          no-reset : action.Save ≡ action.Clear → ⊥
+          no-reset q = clash (cc)
 
       save-step : Steps
       unfolding effect
       save-step = go unread refl
         where
-          nobody : unread ≡ true → Looked p w2 w3 → ⊥
-          nobody q h =
-              let b = and-both (isBeyond (fixedMark (p .s)) l) (not (isMember l (readSet (made p)))) q in
-              ⊎-elim
-              (λ (k : isBeyond (fixedMark (p .s)) l ≡ false).
-              let f = b .0 in
-              clash (cc))
-              (λ (k : isMember l (readSet (made p)) ≡ true).
-              let f : not true ≡ true = rw k at (b .1) in
-              clash (cc))
-              h
-
           go : (b : Bool) → unread ≡ b → Steps
-          go true q = save-after (g .b-runs) (rw (save-kept, q)) (λ h. absurd (nobody q h)) (λ k x h. refl) (λ r. refl) (λ k. refl)
+          go true q =
+              let b = and-both (beyond l) (not (member l)) q in
+              save-after (g .b-runs) (rw (save-kept, q)) (sim-unseen (omega arith) (g .live) (g .sim) (src p w1) l (A .reg w1) saved (unseen l (b .0) (b .1)))
+          go false q = save-after (g .b-runs) (rw (save-kept, q, save-out, saved)) (sim-store (omega arith) (g .live) (g .sim) (src p w1) l (A .reg w1) saved)
+
+    -- SaveComplex: the one save, and then the other
+    module _ (e : Is 8) where
+      abbrev x : Loc
+      x = loc w3 w4
+
+      abbrev y : Loc
+      y = loc w3 (w4 + 1)
+
+      both-out : out ≡ row 8 (src p w1) (src p w2) w3 w4 w5 w6 w7
+      unfolding dests sources shapeOf outAt colored wordsFor
+      both-out = rw e
+
+      abbrev both-unread : Bool
+      both-unread = beyond x && not (member x || member y)
+
+      both-kept : kept ≡ not both-unread
+      unfolding outcomeAt outcomeOf shapeOf
+      both-kept = rw both-out (kept-unless both-unread outcome.Save refl)
+
+      saved-x : B .reg (src p w1) ≡ A .reg w1
+      unfolding sources shapeOf
+      saved-x = sym (same w1 (rw e (inl refl)))
+
+      saved-y : B .reg (src p w2) ≡ A .reg w2
+      unfolding sources shapeOf
+      saved-y = sym (same w2 (rw e (inr (inl refl))))
+
+      abbrev one : List Alloc
+      one = savedTo (src p w1) x (state p .allocs)
+
+      abbrev two : List Alloc
+      two = savedTo (src p w2) y one
+
+      -- clearing both and then giving both is the same
+      cleared-first : give (src p w2) y (give (src p w1) x (clear y (clear x (state p .allocs)))) ≡ two
+      cleared-first = ap (give (src p w2) y) (sym (clear-give (src p w1) x y (clear x (state p .allocs)) apart))
+        where
+          apart : (eqb w3 w3 && eqb w4 (w4 + 1)) ≡ false
+          apart = rw (ne-eqb w4 (w4 + 1) (λ q. omega (arith, q))) (and-false (eqb w3 w3))
+
+      both-after : {B′ : State Value} → B′ .over ≡ false → cond kept (effect m out B) B ≡ B′
+          → SimIn (count p) (endsOf (p .list)) (Looked p) (suc (p .i)) (regs p) (state p .colours) two (storeBoth w3 w4 (A .reg w1) (A .reg w2) A) B′ → Steps
+      unfolding dests sources shapeOf effect
+      both-after over run sim =
+          stepped (rw e) run
+          (inl (none-after p (rw e) (λ q. no-reset (rw e at q)) (rw e cleared-first) (g .a-runs) over sim (live-save (src p w2) y (live-save (src p w1) x (g .live)))))
+        where
+          no-reset : action.SaveComplex ≡ action.Clear → ⊥
+          no-reset q = clash (cc)
+
+      save-complex-step : Steps
+      unfolding effect
+      save-complex-step = go both-unread refl
+        where
+          live-one : Live (count p) (endsOf (p .list)) (regs p) (state p .colours) one
+          live-one = live-save (src p w1) x (g .live)
+
+          -- the partner of a cell beyond the mark is beyond it
+          further : (i : ℕ) → beyond (loc w3 i) ≡ true → beyond (loc w3 (i + 1)) ≡ true
+          further i h =
+              let b = and-both (eqb w3 0) (leb (fixedMark (p .s)) i) h in
+              rw (b .0, le-leb (fixedMark (p .s)) (i + 1) (omega (arith, leb-true (fixedMark (p .s)) i (b .1))))
+
+          go : (b : Bool) → both-unread ≡ b → Steps
+          go true q =
+              let b = and-both (beyond x) (not (member x || member y)) q in
+              let c = neither (member x) (member y) (b .1) in
+              both-after (g .b-runs) (rw (both-kept, q))
+              (sim-unseen (omega arith) live-one
+              (sim-unseen {i = p .i} (omega arith) (g .live) (g .sim) (src p w1) x (A .reg w1) saved-x (unseen x (b .0) (c .0))) (src p w2) y (A .reg w2) saved-y
+              (unseen y (further w4 (b .0)) (c .1)))
           go false q =
-              save-after (g .b-runs) (rw (save-kept, q, save-out, ← saved)) (λ h. stored-at w2 w3 (A .reg w1) B)
-              (stored-else w2 w3 (A .reg w1) B) (λ r. refl) (λ k. refl)
+              both-after (g .b-runs) (rw (both-kept, q, both-out, saved-x, saved-y))
+              (sim-store (omega arith) live-one (sim-store {i = p .i} (omega arith) (g .live) (g .sim) (src p w1) x (A .reg w1) saved-x) (src p w2) y (A .reg w2) saved-y)
 
     -- ---- Nop is dropped, and End stops both runs
 
     nop-step : Is 0 → Steps
     unfolding dests sources shapeOf effect outAt colored wordsFor outcomeAt outcomeOf
-    nop-step e = stepped (rw e) (rw e) (inl (none-after p (rw e) no-reset (rw e) (g .a-runs) (g .b-runs) (sim-next (omega arith) (g .sim)) (g .live)))
-      where
-        no-reset : shapeFor (rec p) .action ≡ action.Clear → ⊥
-        no-reset q =
-            let f : action.Other ≡ action.Clear = rw e at q in
-            clash (cc)
+    nop-step e = writes {vs = []} (record { stays = λ l x y allocs. rw e; valued = rw e tt; list-run = rw e }) (rw e)
 
     end-step : Is 1 → Steps
     unfolding dests sources shapeOf effect outAt colored wordsFor outcomeAt outcomeOf
@@ -381,22 +388,28 @@ module _ {Value : Type 0} (m : Meaning Value) (p : Place) {A B : State Value} (g
 
     -- ---- by the kind
 
-    pub step : (k : ℕ) → isScalar k ≡ true → Is k → Steps
+    pub step : (k : ℕ) → isStraight k ≡ true → Is k → Steps
     unfolding dests sources shapeOf effect outAt colored wordsFor outcomeAt outcomeOf readsAt
     step =
-        by-kind
+        by-straight
+        (λ (k : ℕ). Is k → Steps)
+        (by-kind
         (λ (k : ℕ). Is k → Steps)
         nop-step
         end-step
-        (λ e. computes w2 (m .uni w1 (A .reg w3)) (rw e) (rw e) (rw e) (rw e) (rw (e, same w3 (rw e (inl refl)))))
-        (λ e. computes w2 (m .bi w1 (A .reg w3) (A .reg w4)) (rw e) (rw e) (rw e) (rw e) (rw (e, same w3 (rw e (inl refl)), same w4 (rw e (inr (inl refl))))))
+        (λ e. computes (m .uni w1 (A .reg w3) ∷ []) (rw e) (rw e) (rw e) (rw e) (rw (e, same w3 (rw e (inl refl)))))
+        (λ e. computes (m .bi w1 (A .reg w3) (A .reg w4) ∷ []) (rw e) (rw e) (rw e) (rw e) (rw (e, same w3 (rw e (inl refl)), same w4 (rw e (inr (inl refl))))))
         mov-step
         load-step
         save-step
-        (λ e. computes w1 (A .const w2) (rw e) (rw e) (rw e) (rw e) (rw (e, g .sim .const w2)))
-        (λ e. computes w2 (m .fused w1 (A .reg w3) (A .reg w4) (A .reg w5)) (rw e) (rw e) (rw e) (rw e)
+        (λ e. computes (A .const w2 ∷ []) (rw e) (rw e) (rw e) (rw e) (rw (e, g .sim .const w2)))
+        (λ e. computes (m .fused w1 (A .reg w3) (A .reg w4) (A .reg w5) ∷ []) (rw e) (rw e) (rw e) (rw e)
         (rw (e, same w3 (rw e (inl refl)), same w4 (rw e (inr (inl refl))), same w5 (rw e (inr (inr (inl refl)))))))
-        (λ e. computes w1 (m .select (A .cell w4 w5) (A .reg w2) (A .reg w3)) (rw e) (rw e) (rw e) (rw e)
+        (λ e. computes (m .select (A .cell w4 w5) (A .reg w2) (A .reg w3) ∷ []) (rw e) (rw e) (rw e) (rw e)
         (rw (e, same-cell w4 w5 (rw e (inl refl)), same w2 (rw e (inl refl)), same w3 (rw e (inr (inl refl))))))
-        (λ e. computes w2 (m .bi w1 (A .reg w3) (A .cell w4 w5)) (rw e) (rw e) (rw e) (rw e) (rw (e, same-cell w4 w5 (rw e (inl refl)), same w3 (rw e (inl refl)))))
-        (λ e. computes w2 (m .bi w1 (A .reg w3) (A .const w4)) (rw e) (rw e) (rw e) (rw e) (rw (e, g .sim .const w4, same w3 (rw e (inl refl)))))
+        (λ e. computes (m .bi w1 (A .reg w3) (A .cell w4 w5) ∷ []) (rw e) (rw e) (rw e) (rw e) (rw (e, same-cell w4 w5 (rw e (inl refl)), same w3 (rw e (inl refl)))))
+        (λ e. computes (m .bi w1 (A .reg w3) (A .const w4) ∷ []) (rw e) (rw e) (rw e) (rw e) (rw (e, g .sim .const w4, same w3 (rw e (inl refl))))))
+        load-complex-step
+        save-complex-step
+        (λ e. computes (m .complexX w1 (A .reg w4) (A .reg w5) (A .reg w6) (A .reg w7) ∷ m .complexY w1 (A .reg w4) (A .reg w5) (A .reg w6) (A .reg w7) ∷ []) (rw e) (rw e) (rw e) (rw e)
+        (rw (e, same w4 (rw e (inl refl)), same w5 (rw e (inr (inl refl))), same w6 (rw e (inr (inr (inl refl)))), same w7 (rw e (inr (inr (inr (inl refl))))))))

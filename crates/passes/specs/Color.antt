@@ -153,10 +153,12 @@ wordsFor n i ends [] st = []
 wordsFor n i ends (d ∷ ds) st =
     wordFor n i (d .0) (d .1) st ∷ wordsFor n i ends ds (afterDest n i ends (d .0) (d .1) st)
 
--- whether x was found; a non-Gen destination never is
-unfoldable pub foundFirst : ℕ → ℕ → List (ℕ × Held) → Coloring → Bool
-foundFirst n i [] st = false
-foundFirst n i (d ∷ ds) st = isGen (d .0) && isFound (choiceFor n i (d .1) st)
+-- whether every destination was found, x first, then y on the state after x; a non-Gen destination never is. This counts at
+-- a load, of either kind (document 02, request 1)
+unfoldable pub foundAll : ℕ → ℕ → List ℕ → List (ℕ × Held) → Coloring → Bool
+foundAll n i ends [] st = true
+foundAll n i ends (d ∷ ds) st =
+    isGen (d .0) && isFound (choiceFor n i (d .1) st) && foundAll n i ends ds (afterDest n i ends (d .0) (d .1) st)
 
 -- a choice that is not a found one has a colour in its pool: one of the n colours that is free
 abbrev pub HasPool : ℕ → ℕ → Held → Coloring → Type 0
@@ -230,7 +232,7 @@ updateAllocs action.LoadArgs l x y allocs = allocs
 updateAllocs action.Clear l x y allocs = blank
 updateAllocs action.Other l x y allocs = allocs
 
--- the locations that a record reads: a Load's that is not put out joins nothing
+-- the locations that a record reads: a load that is not put out joins nothing, and one that is put out joins all its halves
 abbrev pub reads : Action → Bool → Loc → List Loc → Bool → List Loc
 reads action.Mov found l pairs located = []
 reads action.Load found l pairs located = cond found [] (l ∷ [])
@@ -272,7 +274,7 @@ destsAt u i st =
     (wantY (shapeFor rec .action) (locOf rec))
 
 abbrev pub foundAt : Setup → ℕ → Coloring → Bool
-foundAt u i st = foundFirst (u .count) i (destsAt u i st) st
+foundAt u i st = foundAll (u .count) i (u .ends) (destsAt u i st) st
 
 unfoldable pub colored : Setup → ℕ → Coloring → List ℕ
 colored u i st =

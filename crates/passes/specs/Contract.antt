@@ -14,7 +14,7 @@ use Rattle.passes.specs.declared.alloc.Outcome.the-variants.{Kept, Nop, 
 use Rattle.passes.specs.declared.symbol.Loc.{Loc}
 use Rattle.passes.specs.Color.{Setup, setup, colorTo, colored, foundAt, locOf, partner, isMember}
 
--- a load of either kind is dropped if x was found
+-- a load of either kind is dropped if it was found
 abbrev pub isLoad : Action → Bool
 isLoad action.Load = true
 isLoad action.LoadComplex = true
@@ -29,8 +29,8 @@ isLoad action.Other = false
 abbrev pub isBeyond : ℕ → Loc → Bool
 isBeyond mark l = eqb (l .space) 0 && leb mark (l .index)
 
--- what becomes of a coloured record: `found` says that it is a load whose location was found, and `members` is the
--- whole read set
+-- what becomes of a coloured record: `found` says that it is a load that was found, and `members` is the whole read set. A
+-- SaveComplex there stays if either half is a member (document 02, request 1)
 unfoldable pub outcomeOf : ℕ → List Loc → Bool → List ℕ → Outcome
 outcomeOf mark members found rec =
     let kind = wordAt rec 0 in
@@ -39,7 +39,7 @@ outcomeOf mark members found rec =
     (cond (isLoad (shapeFor rec .action) && found) Load
     (cond (eqb kind mov && eqb (wordAt rec 1) (wordAt rec 2)) Move
     (cond (eqb kind save && (isBeyond mark l && not (isMember l members))) Save
-    (cond (eqb kind saveComplex && (isBeyond mark l && not (isMember l members && isMember (partner l) members))) Save
+    (cond (eqb kind saveComplex && (isBeyond mark l && not (isMember l members || isMember (partner l) members))) Save
     Kept))))
 
 -- record i of a list: what it is rewritten to, and what becomes of it; u is the list's setup

@@ -1,6 +1,6 @@
--- Public, document 01, section 5: the plain machine for demand 3. It is defined over values of any type; section 5's own has
--- words of 64 bits, and the test of IfElse as document 02's request 2 amends it.
-use Prim.Native.Nat.{ℕ, zero, suc, _<_, _≤_, _^_}
+-- Public, document 01, section 5: the plain machine for demand 3, with the two-part kinds of document 02's request 1. It is
+-- defined over values of any type; section 5's own has words of 64 bits, and the test of IfElse as request 2 amends it.
+use Prim.Native.Nat.{ℕ, zero, suc, _+_, _<_, _≤_, _^_}
 use mathlib.Core.Bool.{Bool, true, false, cond, _&&_, _||_, not}
 use mathlib.Core.List.{List, [], _∷_}
 use mathlib.Core.Path.{_≡_}
@@ -12,12 +12,14 @@ use Rattle.mir.specs.Folds.{allBelow}
 use Rattle.mir.specs.Questions.{refusal}
 use Rattle.mir.specs.Records.{records, recordAt, wordAt, fixedMark}
 
--- arbitrary meanings of the operations: a value of an operation and its operands' values; and of IfElse: a value of the
--- condition's, true_val's and false_val's
+-- arbitrary meanings of the operations: a value of an operation and its operands' values, two for ComplexBi, of x1, y1, x2
+-- and y2; and of IfElse: a value of the condition's, true_val's and false_val's
 pub record Meaning (Value : Type 0) : Type 0 where
   pub uni : ℕ → Value → Value
   pub bi : ℕ → Value → Value → Value
   pub fused : ℕ → Value → Value → Value → Value
+  pub complexX : ℕ → Value → Value → Value → Value → Value
+  pub complexY : ℕ → Value → Value → Value → Value → Value
   pub select : Value → Value → Value → Value
 
 -- registers by their word, cells by space and index, constants by index; a run that has met End is over
@@ -45,10 +47,16 @@ finish st = record { reg = st .reg; cell = st .cell; const = st .const; over = t
 abbrev pub stay : {Value : Type 0} → State Value → State Value
 stay st = st
 
--- what a record does, by its kind; w1 to w5 are its words. The kinds that are not scalar and straight-line have no
--- meaning here
-abbrev pub effects : {Value : Type 0} → Meaning Value → (w1 w2 w3 w4 w5 : ℕ) → List (State Value → State Value)
-effects m w1 w2 w3 w4 w5 =
+-- the two-part kinds: both values are those of the state before, and x's is written before y's, to register or cell
+abbrev pub writeBoth : {Value : Type 0} → ℕ → ℕ → Value → Value → State Value → State Value
+writeBoth x y v w st = write y w (write x v st)
+
+abbrev pub storeBoth : {Value : Type 0} → ℕ → ℕ → Value → Value → State Value → State Value
+storeBoth space index v w st = store space (index + 1) w (store space index v st)
+
+-- what a record does, by its kind; w1 to w7 are its words. Calls and branches have no meaning here
+abbrev pub effects : {Value : Type 0} → Meaning Value → (w1 w2 w3 w4 w5 w6 w7 : ℕ) → List (State Value → State Value)
+effects m w1 w2 w3 w4 w5 w6 w7 =
     stay  -- 0 Nop
     ∷ finish  -- 1 End
     ∷ (λ st. write w2 (m .uni w1 (st .reg w3)) st)  -- 2 Uni
@@ -56,8 +64,8 @@ effects m w1 w2 w3 w4 w5 =
     ∷ (λ st. write w1 (st .reg w2) st)  -- 4 Mov
     ∷ (λ st. write w1 (st .cell w2 w3) st)  -- 5 Load
     ∷ (λ st. store w2 w3 (st .reg w1) st)  -- 6 Save
-    ∷ stay  -- 7 LoadComplex
-    ∷ stay  -- 8 SaveComplex
+    ∷ (λ st. writeBoth w1 w2 (st .cell w3 w4) (st .cell w3 (w4 + 1)) st)  -- 7 LoadComplex
+    ∷ (λ st. storeBoth w3 w4 (st .reg w1) (st .reg w2) st)  -- 8 SaveComplex
     ∷ (λ st. write w1 (st .const w2) st)  -- 9 LoadConst
     ∷ stay  -- 10 LoadArgs
     ∷ stay  -- 11 SaveArgs
@@ -69,11 +77,15 @@ effects m w1 w2 w3 w4 w5 =
     ∷ stay  -- 17 BranchIf
     ∷ (λ st. write w2 (m .bi w1 (st .reg w3) (st .cell w4 w5)) st)  -- 18 LoadMath
     ∷ (λ st. write w2 (m .bi w1 (st .reg w3) (st .const w4)) st)  -- 19 LoadConstMath
+    ∷ (λ st.
+    writeBoth w2 w3 (m .complexX w1 (st .reg w4) (st .reg w5) (st .reg w6) (st .reg w7))
+    (m .complexY w1 (st .reg w4) (st .reg w5) (st .reg w6) (st .reg w7)) st)  -- 20 ComplexBi
     ∷ []
 
 unfoldable pub effect : {Value : Type 0} → Meaning Value → List ℕ → State Value → State Value
 effect m rec =
-    getD (effects m (wordAt rec 1) (wordAt rec 2) (wordAt rec 3) (wordAt rec 4) (wordAt rec 5)) (wordAt rec 0) stay
+    let w = wordAt rec in
+    getD (effects m (w 1) (w 2) (w 3) (w 4) (w 5) (w 6) (w 7)) (w 0) stay
 
 -- records run from the first on, each on the state that the one before it left, until End or the last record
 unfoldable pub turn : {Value : Type 0} → Meaning Value → List ℕ → State Value → State Value
@@ -98,9 +110,11 @@ pub record Word : Type 0 where
 abbrev pub isTrue : Word → Bool
 isTrue w = not (eqb (w .number) 0 || eqb (w .number) 0x8000000000000000)
 
--- with words for values, any U, B and F, and that test
-abbrev pub onWords : (ℕ → Word → Word) → (ℕ → Word → Word → Word) → (ℕ → Word → Word → Word → Word) → Meaning Word
-onWords U B F = record { uni = U; bi = B; fused = F; select = λ c a b. cond (isTrue c) a b }
+-- with words for values, any U, B and F, any X and Y for ComplexBi's two words, and that test
+abbrev pub onWords : (ℕ → Word → Word) → (ℕ → Word → Word → Word) → (ℕ → Word → Word → Word → Word)
+    → (X Y : ℕ → Word → Word → Word → Word → Word) → Meaning Word
+onWords U B F X Y =
+    record { uni = U; bi = B; fused = F; complexX = X; complexY = Y; select = λ c a b. cond (isTrue c) a b }
 
 -- ---- the claim's terms
 
@@ -110,6 +124,13 @@ isScalar kind = leb kind 6 || eqb kind 9 || eqb kind 13 || eqb kind 14 || eqb ki
 
 unfoldable pub AllScalar : List ℕ → Type 0
 AllScalar list = allBelow (records list) (λ i. isScalar (wordAt (recordAt list i) 0)) ≡ true
+
+-- straight kinds, those that demand 3 covers: the scalar ones, and with request 1 also 7, 8 and 20
+abbrev pub isStraight : ℕ → Bool
+isStraight kind = isScalar kind || eqb kind 7 || eqb kind 8 || eqb kind 20
+
+unfoldable pub AllStraight : List ℕ → Type 0
+AllStraight list = allBelow (records list) (λ i. isStraight (wordAt (recordAt list i) 0)) ≡ true
 
 -- the list passes section 7, with these settings and this table and with buffers that are long enough
 unfoldable pub Passing : Settings → List ℕ → List ℕ → Type 0
@@ -122,8 +143,9 @@ pub record EndsEqual {Value : Type 0} (s : Settings) (a b : State Value) : Type 
   pub param : (i : ℕ) → a .cell 2 i ≡ b .cell 2 i
   pub stack : (i : ℕ) → i < fixedMark s → a .cell 0 i ≡ b .cell 0 i
 
--- demand 3 of two lists: on section 5's machine, for every U, B and F and from every state, their runs end equal
+-- demand 3 of two lists: on section 5's machine, for every U, B, F, X and Y and from every state, their runs end equal
 abbrev pub RunsEqual : Settings → (a b : List ℕ) → Type 0
 RunsEqual s a b =
-    (U : ℕ → Word → Word) (B : ℕ → Word → Word → Word) (F : ℕ → Word → Word → Word → Word) (start : State Word)
-    → EndsEqual s (run (onWords U B F) a start) (run (onWords U B F) b start)
+    (U : ℕ → Word → Word) (B : ℕ → Word → Word → Word) (F : ℕ → Word → Word → Word → Word)
+    (X Y : ℕ → Word → Word → Word → Word → Word) (start : State Word)
+    → EndsEqual s (run (onWords U B F X Y) a start) (run (onWords U B F X Y) b start)

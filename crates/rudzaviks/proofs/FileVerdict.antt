@@ -19,7 +19,7 @@ use Rattle.mir.proofs.Passing.{room-passes}
 use Rattle.passes.specs.declared.alloc.Outcome.the-variants.{Kept}
 use Rattle.passes.specs.Color.{setup}
 use Rattle.passes.specs.Contract.{countsOf, countOf}
-use Rattle.passes.specs.Machine.{Passing, AllScalar, RunsEqual}
+use Rattle.passes.specs.Machine.{Passing, AllStraight, RunsEqual}
 use Rattle.passes.proofs.Lengths.{counts-add}
 use Rattle.passes.proofs.Preserved.{runs-equal}
 use Rattle.rudzaviks.specs.declared.file.Layout.the-variants as layout
@@ -81,6 +81,6 @@ answered-passed room file c a = go (fileVerdict room file) a
     go (Refused number index) e = clash (cc)
 
 -- demand 3, of words that are the reduced list
-pub accepted-preserved : {room : Bool} {file words : List ℕ} → Accepted room file → words ≡ fileReduced file → AllScalar (listIn file)
+pub accepted-preserved : {room : Bool} {file words : List ℕ} → Accepted room file → words ≡ fileReduced file → AllStraight (listIn file)
     → RunsEqual (settingsIn file) (listIn file) words
 accepted-preserved {file = file} a e = rw e (runs-equal (settingsIn file) (listIn file) (tableIn file) (a .passing))

@@ -43,9 +43,9 @@ module _ {s : Settings} {list table : List ℕ} {held : Lent} {counts : List ℕ
         ends = cc;
         set = cc;
         counts = cc (left-by (verdictWith s list table held counts) (countsOf s list table) counts);
-        preserved = λ q scalar.
+        preserved = λ q straight.
             let n : reportWord recordsWord (report given) ≡ recordsIn (report result) = cc in
-            rw n (p .preserved (cc) scalar);
+            rw n (p .preserved (cc) straight);
       }
 
   -- no room for the counts

@@ -15,7 +15,7 @@ use Rattle.mir.specs.Answers.{Report, answered, refused, unless}
 use Rattle.mir.specs.Questions.{refusal}
 use Rattle.passes.specs.Contract.{countsOf, wordsOf, reduced, coloursOf, membersOf}
 use Rattle.passes.specs.Create.{endsOf}
-use Rattle.passes.specs.Machine.{AllScalar, RunsEqual}
+use Rattle.passes.specs.Machine.{AllStraight, RunsEqual}
 
 -- a flag is set if its word isn't 0
 abbrev pub flag : ℕ → Bool
@@ -64,5 +64,5 @@ pub record RudzaviksOptimize (s : Settings) (list table : List ℕ) (held : Lent
   pub counts : nowCounts ≡ left (verdictWith s list table held heldCounts) (countsOf s list table) heldCounts
   pub preserved :
       verdictWith s list table held heldCounts ≡ Passed
-      → AllScalar list
+      → AllStraight list
       → RunsEqual s list (take (given * 8) (now .out))

@@ -14,7 +14,7 @@ use Rattle.mir.specs.Answers.{unless}
 use Rattle.mir.specs.Questions.{refusal}
 use Rattle.passes.specs.declared.alloc.Outcome.the-variants.{Kept}
 use Rattle.passes.specs.Contract.{countsOf, reduced, countOf}
-use Rattle.passes.specs.Machine.{AllScalar, RunsEqual}
+use Rattle.passes.specs.Machine.{AllStraight, RunsEqual}
 use Rattle.rudzaviks.specs.declared.file.Layout.{Layout}
 use Rattle.rudzaviks.specs.declared.file.Layout.the-variants.{Counts, Bad}
 use Rattle.rudzaviks.specs.Exports.{settingsOf, reportWord, recordsWord}
@@ -84,7 +84,7 @@ pub record FileReduced (file held now : List ℕ) (given : Answer) : Type 0 wher
   pub out : now ≡ left (wordsVerdict file held) (fileReduced file) held
   pub preserved :
       wordsVerdict file held ≡ Passed
-      → AllScalar (listIn file)
+      → AllStraight (listIn file)
       → RunsEqual (settingsIn file) (listIn file) (take (recordsIn (report given) * 8) now)
 
 -- the file reduced into bytes: question 4 asks for 4 bytes, and 32 for each record of the file
@@ -102,5 +102,5 @@ pub record RudzaviksReduce (file held now : List ℕ) (given : ℕ) : Type 0 whe
   -- section 5 again, over what the bytes hold
   pub preserved :
       bytesVerdict file held ≡ Passed
-      → AllScalar (listIn file)
+      → AllStraight (listIn file)
       → RunsEqual (settingsIn file) (listIn file) (wordsIn now 1 (given * 8))

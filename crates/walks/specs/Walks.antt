@@ -137,10 +137,10 @@ recordStep n i next regs rec σ =
       ends = given .ends;
     }
 
--- whether x was found, by its mark
+-- whether every destination was found, by the marks
 unfoldable pub wasFound : List ℕ → ℕ → List ℕ → Bool
-wasFound [] next ends = false
-wasFound (x ∷ ws) next ends = isGen x && leb 65536 (getD ends next 0)
+wasFound [] next ends = true
+wasFound (w ∷ ws) next ends = isGen w && leb 65536 (getD ends next 0) && wasFound ws (next + one w) ends
 
 -- the locations that a record reads
 abbrev pub readsOf : List ℕ → List ℕ → Bool → List Loc

@@ -223,15 +223,20 @@ fn color_record(
     update_allocs(given, action, l, x, y)
 }
 
-// Whether x was found; `next` is the record's first static.
+// Whether every destination was found; `next` is the record's first static. It counts at a load.
 pub fn was_found(rec: [u32; 8], next: usize, ends: &[u32]) -> bool
-    requires { ⌜ next < length (now ends) ⌝ }
+    requires { ⌜ next + 2 ≤ length (now ends) ⌝ }
     ensures { λ r. ⌜ r ≡ wasFound (dests rec) next (now (ends .entry)) ⌝ }
 {
     match dests_of(rec) {
-        Dests::Nothing => false,
+        Dests::Nothing => true,
         Dests::One(x) => is_marked(x, next, ends),
-        Dests::Two(x, _) => is_marked(x, next, ends),
+        Dests::Two(x, y) => {
+            if !is_marked(x, next, ends) {
+                return false;
+            }
+            is_marked(y, next + 1, ends)
+        }
     }
 }
 

@@ -23,7 +23,7 @@ use mir::shape::shape_of;
 use passes::alloc::Outcome;
 use passes::symbol::Loc;
 ghost use Prim.Native.Nat.{ℕ, _+_, _*_, _<_, _≤_, _%_};
-ghost use mathlib.Core.Bool.{true, cond, _&&_, not};
+ghost use mathlib.Core.Bool.{true, cond, _&&_, _||_, not};
 ghost use mathlib.Core.List.{List, _++_, map};
 ghost use mathlib.Core.Path.{_≡_};
 ghost use lib.ListN.{length, getD, set, take, drop};
@@ -131,17 +131,17 @@ fn save_outcome(l: Loc, fixed: u64, locs: &[u32], members: usize, seen: &[u64]) 
     Outcome::Save
 }
 
-// Whether both halves of a location are members.
-fn contains_both(l: Loc, locs: &[u32], members: usize, seen: &[u64]) -> bool
+// Whether either half of a location is a member; `x` is the first half.
+fn contains_either(x: Loc, locs: &[u32], members: usize, seen: &[u64]) -> bool
     requires { ⌜ Indexed (now seen) (pairsFrom (now locs) 0 members) ⌝ }
-    requires { ⌜ l .index < any ⌝ }
+    requires { ⌜ x .index < any ⌝ }
     requires { ⌜ members * 2 ≤ length (now locs) ⌝ }
-    ensures { λ r. ⌜ r ≡ (isMember l (pairsFrom (now (locs .entry)) 0 members) && isMember (color.partner l) (pairsFrom (now (locs .entry)) 0 members)) ⌝ }
+    ensures { λ r. ⌜ r ≡ (isMember x (pairsFrom (now (locs .entry)) 0 members) || isMember (color.partner x) (pairsFrom (now (locs .entry)) 0 members)) ⌝ }
 {
-    if !contains(locs, members, l, seen) {
-        return false;
+    if contains(locs, members, x, seen) {
+        return true;
     }
-    contains(locs, members, partner(l), seen)
+    contains(locs, members, partner(x), seen)
 }
 
 // What becomes of a SaveComplex to a location.
@@ -149,18 +149,18 @@ fn save_complex_outcome(l: Loc, fixed: u64, locs: &[u32], members: usize, seen: 
     requires { ⌜ Indexed (now seen) (pairsFrom (now locs) 0 members) ⌝ }
     requires { ⌜ l .index < any ⌝ }
     requires { ⌜ members * 2 ≤ length (now locs) ⌝ }
-    ensures { λ r. ⌜ r ≡ cond (isBeyond fixed l && not (isMember l (pairsFrom (now (locs .entry)) 0 members) && isMember (color.partner l) (pairsFrom (now (locs .entry)) 0 members))) outcomes.Save outcomes.Kept ⌝ }
+    ensures { λ r. ⌜ r ≡ cond (isBeyond fixed l && not (isMember l (pairsFrom (now (locs .entry)) 0 members) || isMember (color.partner l) (pairsFrom (now (locs .entry)) 0 members))) outcomes.Save outcomes.Kept ⌝ }
 {
     if !is_beyond(fixed, l) {
         return Outcome::Kept;
     }
-    if contains_both(l, locs, members, seen) {
+    if contains_either(l, locs, members, seen) {
         return Outcome::Kept;
     }
     Outcome::Save
 }
 
-// What becomes of a record in colours; `found` says that its location was found.
+// What becomes of a record in colours; `found` says that all its destinations were found.
 fn outcome_of(
     rec: [u32; 8],
     found: bool,

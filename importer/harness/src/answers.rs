@@ -1,5 +1,5 @@
-//! The words that the C entries are to answer: the original's answer, or the refusal of the first
-//! question that is answered no.
+//! The words that the C entries are to answer: what a copy of the original leaves, or the refusal
+//! of the first question that is answered no.
 //!
 //! Bits 32 to 55 hold the question's number, 0 for none. With a number, bits 0 to 31 hold the
 //! record's index.
@@ -10,10 +10,34 @@ use crate::file;
 use crate::lent::{has_room, Lent};
 use crate::lists::List;
 use crate::questions::{refusal, refusal_beside, Refusal};
+use crate::reduced::Reduced;
 use crate::run;
+use crate::tally::By;
 
 /// Stands in bits 0 to 31 where no Label has the number.
 pub const ABSENT: u64 = 4_294_967_295;
+
+/// What an entry that reduces is to answer and to leave.
+#[derive(Debug, PartialEq, Eq)]
+pub struct Answer<L> {
+    /// The number of records that are left, or a refusal.
+    pub word: u64,
+    /// What the slices, or the output, then start with. A refusal puts nothing there.
+    pub lent: L,
+    pub by: By,
+}
+
+impl<L: Default> Answer<L> {
+    fn refused(no: Refusal) -> Answer<L> {
+        Answer { word: refused(no), lent: L::default(), by: By::Question }
+    }
+
+    fn reduced(list: &List, lent: impl Fn(&Reduced) -> L) -> Answer<L> {
+        let both = run::both(list);
+        let (by, reduced) = (both.by(), both.expected());
+        Answer { word: u64::from(reduced.counts()[0]), lent: lent(&reduced), by }
+    }
+}
 
 pub fn refused((number, index): Refusal) -> u64 {
     (u64::from(number) << 32) | index as u64
@@ -44,15 +68,13 @@ pub fn populate_labels(list: &List, labels: &[u32]) -> Vec<u64> {
     labels.iter().map(|label| place(label).map_or(ABSENT, |index| *index as u64)).collect()
 }
 
-/// The number of records that are left, or a refusal; and the words that the slices, lent with
-/// these lengths, then start with. A refusal puts none there.
-pub fn optimize(list: &List, lengths: [usize; 5]) -> (u64, Lent) {
+/// The answer with slices of these lengths.
+pub fn optimize(list: &List, lengths: [usize; 5]) -> Answer<Lent> {
     let room = has_room(list, lengths);
-    if let Some(no) = refusal(&list.settings, &list.words, &list.table, room) {
-        return (refused(no), Lent::default());
+    match refusal(&list.settings, &list.words, &list.table, room) {
+        Some(no) => Answer::refused(no),
+        None => Answer::reduced(list, Reduced::lent),
     }
-    let reduced = run::reduced(list);
-    (u64::from(reduced.counts()[0]), reduced.lent())
 }
 
 /// The list of a file, where it passes with an output of this many bytes; else the refusal.
@@ -65,14 +87,10 @@ pub fn passing(file: &[u8], out_len: usize) -> Result<List, Refusal> {
     }
 }
 
-/// The number of records that are left of a file's list, or a refusal; and the bytes that the
-/// output, lent with this many, then starts with. A refusal puts none there.
-pub fn reduce(file: &[u8], out_len: usize) -> (u64, Vec<u8>) {
+/// The answer to a file with an output of this many bytes.
+pub fn reduce(file: &[u8], out_len: usize) -> Answer<Vec<u8>> {
     match passing(file, out_len) {
-        Ok(list) => {
-            let left = run::optimize(&list);
-            (left.len() as u64 / 8, file::output(&left))
-        }
-        Err(no) => (refused(no), Vec::new()),
+        Ok(list) => Answer::reduced(&list, |reduced| file::output(&reduced.words)),
+        Err(no) => Answer::refused(no),
     }
 }

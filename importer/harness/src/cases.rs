@@ -3,7 +3,7 @@
 //! The program `reduce` reads one file. The program `cases` reads many: how many there are, then
 //! each one's length in bytes and its bytes, the numbers being 32-bit words, little-endian. Before
 //! what the former prints for a file it prints `case` and the file's place, from 1 on. All that is
-//! printed is the original's or the questions', none is the verified code's.
+//! printed is the amended copy's or the questions', none is the verified code's.
 
 use crate::damage::{Fault, OF_RECORD};
 use crate::file::{encode, record_count, with_word, MOST, PAIR_COUNT};
@@ -78,10 +78,10 @@ fn add_bad_lists(random: &mut Random, files: &mut Vec<Vec<u8>>) {
     }
 }
 
-/// Lists that pass: known ones, random ones, and the longest with the largest table; last that one
-/// with a last record of no kind.
+/// Lists that pass: known ones, random ones, and the longest with the largest table; then that one
+/// with a last record of no kind, and three more known ones.
 fn add_longer(random: &mut Random, files: &mut Vec<Vec<u8>>) {
-    let mut lists: Vec<List> = stored_lists::lists().into_iter().map(|named| named.list).collect();
+    let mut lists: Vec<List> = stored_lists::twelve().map(|named| named.list).into();
     lists.push(limits::largest_fields(WIDE));
     for _ in 0..12 {
         lists.push(any_list(random, 40));
@@ -98,6 +98,7 @@ fn add_longer(random: &mut Random, files: &mut Vec<Vec<u8>>) {
     lists.push(longest.clone());
     longest.record_mut(MOST - 1)[0] = 21;
     lists.push(longest);
+    lists.extend(stored_lists::two_part().map(|named| named.list));
     files.extend(lists.iter().map(|list| encode(list, set_flag(random))));
 }
 

@@ -1,5 +1,5 @@
 //! What the tests need: lists of records, good and damaged, and the answers that are expected for
-//! them by the original and by the questions. Nothing here calls the verified code.
+//! them by the copies of the original and by the questions. Nothing here calls the verified code.
 
 pub mod answers;
 pub mod cases;
@@ -17,7 +17,9 @@ pub mod reduced;
 pub mod roles;
 pub mod run;
 pub mod settings;
+pub mod short;
 pub mod stored_lists;
+pub mod tally;
 pub mod theorem;
 pub mod vectors;
 pub mod worked_examples;

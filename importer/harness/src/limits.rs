@@ -22,7 +22,7 @@ pub fn lists() -> Vec<(&'static str, List)> {
         ("no records", list(&mut random, &Profile::plain(0))),
         ("as many records as may be", list(&mut random, &long)),
         ("as many records and pairs as may be", list(&mut random, &both)),
-        ("as many scalar straight-line records", list(&mut random, &long.straight())),
+        ("as many scalar straight-line records", list(&mut random, &long.scalar())),
         ("every index, constant and label at an end", list(&mut random, &ends)),
         ("the largest fixed mark", list(&mut random, &Profile { extreme: 0, ..ends })),
         ("no registers", list(&mut random, &none)),

@@ -2,7 +2,7 @@
 
 use crate::random::Random;
 use crate::record::{Record, WORDS};
-use crate::roles::{role, Role, KINDS, STRAIGHT};
+use crate::roles::{role, Role, KINDS, SCALAR, STRAIGHT};
 use crate::settings::Settings;
 
 /// A list with its settings and the table that is lent beside it.
@@ -39,6 +39,8 @@ pub struct Profile {
     pub settings: Settings,
     pub records: usize,
     pub pairs: usize,
+    /// How many spaces are in use, Stack first.
+    pub spaces: u32,
     /// How many indexes each space has in use. With few of them locations collide.
     pub cells: u32,
     /// How many label numbers are in use.
@@ -58,6 +60,7 @@ impl Profile {
             settings: Settings { count_regs: 4, ..Settings::default() },
             records,
             pairs: 6,
+            spaces: 3,
             cells: 3,
             labels: 3,
             named: 10,
@@ -74,6 +77,7 @@ impl Profile {
             settings: random_settings(random),
             records: random.between(0, most) as usize,
             pairs,
+            spaces: 3,
             cells: if random.percent(90) { random.between(1, 6) } else { random.between(7, 40) },
             labels: random.between(1, 6),
             named: random.pick(&[0, 5, 10, 50, 90]),
@@ -82,15 +86,44 @@ impl Profile {
         }
     }
 
+    /// Mostly two-part records, and scalar ones that meet them: over few registers, and few cells
+    /// on both sides of the fixed mark, so that locations and partners collide.
+    pub fn two_part(random: &mut Random, most_records: u32) -> Profile {
+        let mut weights = [0; KINDS];
+        STRAIGHT.iter().for_each(|kind| weights[*kind as usize] = 1);
+        [4, 5, 6, 9, 20].iter().for_each(|kind| weights[*kind] = 8);
+        [7, 8].iter().for_each(|kind| weights[*kind] = random.pick(&[4, 16]));
+        [10, 12, 15, 17].iter().for_each(|kind| weights[*kind] = random.below(2));
+        let count_regs = random.pick(&[1, 2, 2, 3, 3, 4, 5, 8]);
+        Profile {
+            settings: Settings { count_regs, ..random_settings(random) },
+            spaces: random.pick(&[1, 1, 2, 3]),
+            cells: random.between(2, 5),
+            named: random.pick(&[0, 0, 5, 20]),
+            extreme: random.pick(&[0, 0, 0, 10]),
+            weights,
+            ..Profile::plain(random.between(1, most_records) as usize)
+        }
+    }
+
+    /// The same profile, with straight kinds alone.
+    pub fn straight(self) -> Profile {
+        self.of_kinds(&STRAIGHT)
+    }
+
     /// The same profile, with scalar straight-line kinds alone.
-    pub fn straight(mut self) -> Profile {
+    pub fn scalar(self) -> Profile {
+        self.of_kinds(&SCALAR)
+    }
+
+    fn of_kinds(mut self, kinds: &[u32]) -> Profile {
         for kind in 0..KINDS {
-            if !STRAIGHT.contains(&(kind as u32)) {
+            if !kinds.contains(&(kind as u32)) {
                 self.weights[kind] = 0;
             }
         }
         if self.weights.iter().all(|weight| *weight == 0) {
-            STRAIGHT.iter().for_each(|kind| self.weights[*kind as usize] = 1);
+            kinds.iter().for_each(|kind| self.weights[*kind as usize] = 1);
         }
         self
     }
@@ -143,10 +176,16 @@ pub fn list(random: &mut Random, profile: &Profile) -> List {
     List { settings: profile.settings, table, words }
 }
 
-/// A list of any profile, one in four straight.
+/// A list of any profile, one in four of scalar straight-line kinds.
 pub fn any_list(random: &mut Random, most_records: u32) -> List {
     let profile = Profile::random(random, most_records);
-    let profile = if random.percent(25) { profile.straight() } else { profile };
+    let profile = if random.percent(25) { profile.scalar() } else { profile };
+    list(random, &profile)
+}
+
+/// A list of mostly two-part records.
+pub fn two_part_list(random: &mut Random, most_records: u32) -> List {
+    let profile = Profile::two_part(random, most_records);
     list(random, &profile)
 }
 
@@ -225,7 +264,7 @@ impl Generator<'_> {
     }
 
     fn cell(&mut self) -> (u32, u32) {
-        let space = self.random.below(3);
+        let space = self.random.below(self.profile.spaces);
         if self.random.percent(self.profile.extreme) {
             return (space, self.random.pick(&[0, u32::MAX - 2, u32::MAX - 1, u32::MAX]));
         }

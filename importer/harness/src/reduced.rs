@@ -1,4 +1,4 @@
-//! What is left of a list, from what the original leaves.
+//! What is left of a list, from what a copy of the original leaves.
 
 use std::collections::HashSet;
 

@@ -1,10 +1,13 @@
-//! Running the original on a list of records.
+//! Running the original on a list of records: its unchanged copy, and the amended one.
 
-use oracle::{GreedyAllocator, Instruction, Loc, Mir, MirWriter, Reg};
+use std::fmt;
+
+use oracle::{AmendedAllocator, Config, GreedyAllocator, Instruction, Loc, Mir, MirWriter, Reg};
 
 use crate::lists::List;
-use crate::record::{decode_list, encode_list, spans};
+use crate::record::{decode_list, encode_list, spans, WORDS};
 use crate::reduced::Reduced;
+use crate::tally::By;
 
 /// The list as the original holds it; none if a record has no meaning.
 pub fn mir(list: &List) -> Option<Mir> {
@@ -15,25 +18,52 @@ pub fn mir(list: &List) -> Option<Mir> {
     Some(mir)
 }
 
-/// A list and the original, ready for it.
-pub struct Ready {
-    mir: Mir,
-    allocator: GreedyAllocator,
+/// A copy of the original, to be run as any other.
+pub trait Allocator: fmt::Debug {
+    fn new(config: Config, count_regs: usize) -> Self;
+
+    /// Reduces a list. Panics as the original does.
+    fn optimize(&mut self, mir: &mut Mir);
 }
 
-impl Ready {
+pub type Unchanged = GreedyAllocator;
+pub type Amended = AmendedAllocator;
+
+macro_rules! copies {
+    ($($copy:ty),*) => {$(
+        impl Allocator for $copy {
+            fn new(config: Config, count_regs: usize) -> Self {
+                <$copy>::new(config, count_regs)
+            }
+
+            fn optimize(&mut self, mir: &mut Mir) {
+                <$copy>::optimize(self, mir).expect("no carried-over function makes an error");
+            }
+        }
+    )*};
+}
+
+copies!(Unchanged, Amended);
+
+/// A list and a copy of the original, ready for it.
+pub struct Ready<A> {
+    mir: Mir,
+    allocator: A,
+}
+
+impl<A: Allocator> Ready<A> {
     /// Panics where a record has no meaning.
-    pub fn new(list: &List) -> Ready {
+    pub fn new(list: &List) -> Ready<A> {
         let count_regs = list.settings.count_regs as usize;
         Ready {
             mir: mir(list).expect("each record has a meaning"),
-            allocator: GreedyAllocator::new(list.settings.config(), count_regs),
+            allocator: A::new(list.settings.config(), count_regs),
         }
     }
 
     /// Reduces the list. Panics as the original does.
     pub fn optimize(&mut self) {
-        self.allocator.optimize(&mut self.mir).expect("no carried-over function makes an error");
+        self.allocator.optimize(&mut self.mir);
     }
 
     /// The records, those of the given list or what is left of them.
@@ -45,12 +75,14 @@ impl Ready {
     /// text has a line for each: `σ0 := (Static { reg: %1, end: 2 })`.
     fn statics(&self) -> Vec<(u32, u32)> {
         let text = format!("{:?}", self.allocator);
-        let number = |line: &str, before: &str, after: &str| {
-            let (_, rest) = line.split_once(before)?;
-            rest.split_once(after)?.0.parse().ok()
+        let number = |text: &str| text.parse().ok();
+        let pair = |line: &str| {
+            let (_, numbers) = line.split_once('%')?;
+            let (colour, rest) = numbers.split_once(',')?;
+            let end = rest.strip_prefix(" end: ")?.strip_suffix(" })")?;
+            Some((number(colour)?, number(end)?))
         };
         let lines = text.lines().filter(|line| line.starts_with('σ'));
-        let pair = |line| Some((number(line, "reg: %", ",")?, number(line, "end: ", " ")?));
         lines.map(|line| pair(line).expect("a static's colour and end")).collect()
     }
 
@@ -71,19 +103,63 @@ impl Ready {
     }
 }
 
-fn optimized(list: &List) -> Ready {
-    let mut ready = Ready::new(list);
+/// All that a copy leaves, or panics.
+pub fn left_by<A: Allocator>(list: &List) -> Reduced {
+    let mut ready = Ready::<A>::new(list);
     ready.optimize();
-    ready
-}
-
-/// The reduced list. Panics as the original does, and where a record has no meaning.
-pub fn optimize(list: &List) -> Vec<u32> {
-    optimized(list).words(list)
-}
-
-/// All that the original leaves, or panics.
-pub fn reduced(list: &List) -> Reduced {
-    let ready = optimized(list);
     Reduced::new(list, ready.words(list), ready.statics())
+}
+
+/// All that the unchanged copy leaves, or panics.
+pub fn original(list: &List) -> Reduced {
+    left_by::<Unchanged>(list)
+}
+
+/// What both copies leave of a list.
+pub struct Both {
+    pub original: Reduced,
+    pub amended: Reduced,
+}
+
+/// Runs both copies, or panics. They never part in a colour or an end, nor on a list without
+/// two-part loads and saves.
+pub fn both(list: &List) -> Both {
+    let both = Both { original: original(list), amended: left_by::<Amended>(list) };
+    assert_eq!(both.original.statics, both.amended.statics, "{list:?}");
+    assert!(both.by() == By::Original || has_two_part(list), "{list:?}");
+    both
+}
+
+fn has_two_part(list: &List) -> bool {
+    list.words.chunks_exact(WORDS).any(|record| record[0] == 7 || record[0] == 8)
+}
+
+impl Both {
+    /// Whose answer the port is held to.
+    pub fn by(&self) -> By {
+        if self.original == self.amended {
+            By::Original
+        } else {
+            By::Amended
+        }
+    }
+
+    /// What the port is to leave.
+    pub fn expected(self) -> Reduced {
+        if self.by() == By::Original {
+            self.original
+        } else {
+            self.amended
+        }
+    }
+}
+
+/// All that is expected, or panics.
+pub fn reduced(list: &List) -> Reduced {
+    both(list).expected()
+}
+
+/// The reduced list that is expected, or panics.
+pub fn optimize(list: &List) -> Vec<u32> {
+    reduced(list).words
 }

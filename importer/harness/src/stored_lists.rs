@@ -1,5 +1,5 @@
-//! Twelve lists, each named for what it shows. The theorem `stored-lists` says what is left of
-//! them, by computation; the answers are the original's, and are not written here.
+//! Fifteen lists, each named for what it shows. The theorem `stored-lists` says what is left of
+//! them, by computation; the answers are the amended copy's, and are not written here.
 
 use crate::kinds::*;
 use crate::lists::List;
@@ -27,9 +27,20 @@ impl Named {
     }
 }
 
-/// The twelve, always in this order.
+/// All of them, always in this order.
 pub fn lists() -> Vec<Named> {
-    vec![
+    twelve().into_iter().chain(two_part()).collect()
+}
+
+/// The last three, of two-part loads and saves. Among stored answers they stand behind all others, so
+/// that the random lists there are the same with them and without.
+pub fn two_part() -> [Named; 3] {
+    [found_halves(), joining_halves(), read_halves()]
+}
+
+/// All but the last three.
+pub fn twelve() -> [Named; 12] {
+    [
         named_registers(),
         moves(),
         first_free(),
@@ -168,8 +179,8 @@ fn complex_mark() -> Named {
         load(1, STACK, 27),
         fused(0, RET, 0, 1, 2),
     ];
-    let shows = "SaveComplex below the mark of 22; with both halves read; with y's alone; with \
-                 none, its LoadComplex being dropped";
+    let shows = "SaveComplex stays below the mark of 22, with both halves read, with y's alone; \
+                 it goes where its LoadComplex does";
     Named::new("complex-mark", shows, Settings { args: 3, complex: true, ..plain(3) }, &records)
 }
 
@@ -186,8 +197,8 @@ fn complex_loads() -> Named {
         save_complex(RET, 0, PARAM, LAST - 1),
         load(2, PARAM, LAST),
     ];
-    let shows = "LoadComplex goes if x is found, though y isn't or is named; it stays with a \
-                 named x; SaveComplex clears both halves";
+    let shows = "LoadComplex stays if x is found and y isn't, or if either is named; SaveComplex \
+                 clears both halves";
     Named::new("complex-loads", shows, plain(4), &records)
 }
 
@@ -250,4 +261,56 @@ fn thirty_two() -> Named {
     let shows = "each of 32 colours holds a location; the last one is found, and the first one is \
                  given away";
     Named::new("thirty-two", shows, plain(32), &records)
+}
+
+fn found_halves() -> Named {
+    let records = [
+        load_const(0, 1),
+        save(0, STACK, 16),
+        load_complex(1, 2, STACK, 16),
+        load_complex(0, 3, STACK, 16),
+        load_complex(RET, 1, STACK, 16),
+        load_complex(1, LEFT, STACK, 16),
+        load_complex(2, 2, STACK, 15),
+        load_complex(1, 1, STACK, 16),
+        complex_bi(2, [0, 1], [0, 3, 2, 1]),
+        save_complex(0, 1, MEM, 0),
+    ];
+    let shows = "LoadComplex stays with x alone found, with y alone, with one found and the \
+                 other named; it goes with both found";
+    Named::new("found-halves", shows, plain(4), &records)
+}
+
+fn joining_halves() -> Named {
+    let records = [
+        load_const(0, 7),
+        save(0, STACK, 16),
+        load_complex(1, 2, STACK, 16),
+        bi(2, 0, 1, 2),
+        save(0, STACK, 21),
+        load_complex(1, 2, STACK, 20),
+        complex_bi(1, [0, 1], [0, 1, 2, 2]),
+        save_complex(0, 1, MEM, 0),
+    ];
+    let shows = "a half that is found is read all the same where the load is put out: the Save to \
+                 x's half stays, and the one to y's";
+    Named::new("joining-halves", shows, plain(3), &records)
+}
+
+fn read_halves() -> Named {
+    let records = [
+        load_complex(0, 1, MEM, 0),
+        save_complex(0, 1, STACK, 15),
+        save_complex(0, 1, STACK, 18),
+        save_complex(1, 1, STACK, 20),
+        save_complex(1, 0, STACK, 22),
+        load(RET, STACK, 18),
+        load_math(2, 2, 0, STACK, 21),
+        load_complex(0, 1, STACK, 22),
+        complex_bi(3, [0, 0], [0, 1, 2, 2]),
+        save(0, PARAM, 0),
+    ];
+    let shows = "SaveComplex stays with x's half read, with y's half read, one below the mark of \
+                 16; it goes with none read";
+    Named::new("read-halves", shows, plain(3), &records)
 }

@@ -1,4 +1,4 @@
-//! Lists as antt text, and the theorem that says what the original makes of them.
+//! Lists as antt text, and the theorem that says what the amended copy makes of them.
 
 use crate::kinds::{LEFT, MEM, PARAM, RET, RIGHT, STACK, TEMP};
 use crate::record::WORDS;

@@ -6,7 +6,7 @@
 //! words and its words; the answer's low and high word. With operation 3 the lent slices follow:
 //! output, colours, ends, set, counts. First come their five lengths in words. Then comes for each
 //! the number of words that it starts with in the end, and these words; all others are FILL, as
-//! they were. Each answer is the original's or the questions', none is the verified code's.
+//! they were. Each answer is the questions' or the amended copy's, none is the verified code's.
 
 use crate::damage::damaged;
 use crate::file::bytes;
@@ -48,7 +48,7 @@ impl Case {
         match self.operation {
             UsedRegisters => answers::used_registers(&self.list),
             PopulateLabels(label) => answers::populate_labels(&self.list, &[label])[0],
-            Optimize(lengths) => answers::optimize(&self.list, lengths).0,
+            Optimize(lengths) => answers::optimize(&self.list, lengths).word,
         }
     }
 
@@ -66,8 +66,8 @@ impl Case {
         words.extend([answer as u32, (answer >> 32) as u32]);
         if let Optimize(lengths) = self.operation {
             words.extend(lengths.map(|length| length as u32));
-            let prefixes = answers::optimize(&self.list, lengths).1;
-            add_parts(&mut words, &prefixes.each_ref().map(Vec::as_slice));
+            let lent = answers::optimize(&self.list, lengths).lent;
+            add_parts(&mut words, &lent.each_ref().map(Vec::as_slice));
         }
         words
     }
@@ -162,10 +162,10 @@ fn add_long(builder: &mut Builder) {
 }
 
 /// Lists to be reduced: known ones, random ones with a damaged copy, each slice too short, the
-/// longest list that fits.
+/// longest list that fits, and three more known ones.
 fn add_reduced(builder: &mut Builder) {
     worked_examples::cases().into_iter().for_each(|case| builder.add_optimize(case.list));
-    stored_lists::lists().into_iter().for_each(|named| builder.add_optimize(named.list));
+    stored_lists::twelve().into_iter().for_each(|named| builder.add_optimize(named.list));
     builder
         .add_optimize(limits::largest_fields(Settings { count_regs: 32, ..Settings::default() }));
     for _ in 0..45 {
@@ -180,6 +180,7 @@ fn add_reduced(builder: &mut Builder) {
     }
     let long = list(&mut builder.random, &Profile::plain(MOST_RECORDS));
     builder.add_optimize(long);
+    stored_lists::two_part().into_iter().for_each(|named| builder.add_optimize(named.list));
 }
 
 /// The whole file.

@@ -1,6 +1,6 @@
 //! The form of a file and of an output.
 
-use harness::answers::{passing, reduce, refused};
+use harness::answers::{passing, reduce, refused, Answer};
 use harness::damage::damaged;
 use harness::file::{
     bytes, decode, encode, output, record_count, records, room, words, LONGEST, MOST,
@@ -10,6 +10,7 @@ use harness::lists::{any_list, List};
 use harness::random::Random;
 use harness::record::WORDS;
 use harness::settings::{set_flag, Settings};
+use harness::tally::By;
 use harness::worked_examples;
 
 /// Case B as a file, written out.
@@ -30,8 +31,9 @@ fn case_b_written_out() {
     assert_eq!(output(&left), out);
     assert_eq!(records(&[&out[..], &[1; 50]].concat()), Some(left));
     assert_eq!(records(&out[..out.len() - 1]), None);
-    assert_eq!(reduce(&b(), 132), (2, out));
-    assert_eq!(reduce(&b(), 131), (refused((4, 0)), vec![]));
+    assert_eq!(reduce(&b(), 132), Answer { word: 2, lent: out, by: By::Original });
+    let too_short = Answer { word: refused((4, 0)), lent: vec![], by: By::Question };
+    assert_eq!(reduce(&b(), 131), too_short);
 }
 
 #[test]

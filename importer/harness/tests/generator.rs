@@ -1,20 +1,25 @@
 //! The generators of lists make what they say.
 
-use harness::lists::{any_list, list, Profile};
+use harness::lists::{any_list, list, two_part_list, List, Profile};
 use harness::questions::refusal;
 use harness::random::Random;
 use harness::record::WORDS;
-use harness::roles::{KINDS, STRAIGHT};
+use harness::roles::{KINDS, SCALAR, STRAIGHT};
 use harness::{how_many, limits, run};
 
-#[test]
-fn lists_pass_every_question() {
+fn pass_every_question(lists: u64, generate: impl Fn(&mut Random) -> List) {
     let mut random = Random::new(11);
-    for seed in 0..how_many(500_000) {
-        let list = any_list(&mut random, 80);
+    for seed in 0..lists {
+        let list = generate(&mut random);
         let no = refusal(&list.settings, &list.words, &list.table, true);
         assert_eq!(no, None, "list {seed}: {list:?}");
     }
+}
+
+#[test]
+fn lists_pass_every_question() {
+    pass_every_question(how_many(500_000), |random| any_list(random, 80));
+    pass_every_question(how_many(100_000), |random| two_part_list(random, 80));
 }
 
 #[test]
@@ -47,18 +52,56 @@ fn every_kind_and_register_count_comes_up() {
     assert!(registers[256..].iter().all(|times| *times > 500), "{registers:?}");
 }
 
-#[test]
-fn straight_lists_are_straight() {
+/// A narrowed profile gives lists of these kinds, and of each of them.
+fn gives_the_kinds(narrowed: fn(Profile) -> Profile, kinds: &[u32]) {
     let mut random = Random::new(13);
+    let mut met = [false; KINDS];
     for _ in 0..2_000 {
-        let profile = Profile::random(&mut random, 80).straight();
+        let profile = narrowed(Profile::random(&mut random, 80));
         let list = list(&mut random, &profile);
-        let straight = |record: &[u32]| STRAIGHT.contains(&record[0]);
-        assert!(list.words.chunks_exact(WORDS).all(straight), "{list:?}");
+        list.words.chunks_exact(WORDS).for_each(|record| met[record[0] as usize] = true);
     }
+    let met = (0..KINDS as u32).filter(|kind| met[*kind as usize]);
+    assert_eq!(met.collect::<Vec<_>>(), kinds);
 }
 
-/// Locations collide: the original finds something to drop in many of the lists, and keeps much.
+#[test]
+fn straight_lists_are_straight() {
+    gives_the_kinds(Profile::straight, &STRAIGHT);
+    gives_the_kinds(Profile::scalar, &SCALAR);
+}
+
+/// With one register and with more, on each side of the fixed mark and across it, with the same
+/// register twice and with named halves.
+#[test]
+fn every_sort_of_two_part_record_comes_up() {
+    let mut random = Random::new(15);
+    let mut times = [[0u32; 2]; 10];
+    for _ in 0..10_000 {
+        let list = two_part_list(&mut random, 20);
+        let mark = list.settings.fixed_mark();
+        for r in list.words.chunks_exact(WORDS).filter(|r| r[0] == 7 || r[0] == 8) {
+            let sorts = [
+                list.settings.count_regs == 1,
+                list.settings.count_regs == 2,
+                list.settings.count_regs == 3,
+                r[3] == 0 && r[4] + 2 == mark,
+                r[3] == 0 && r[4] + 1 == mark,
+                r[3] == 0 && r[4] == mark,
+                r[1] == r[2],
+                r[1] > 255,
+                r[2] > 255,
+                r[1] > 255 && r[2] > 255,
+            ];
+            for (times, met) in times.iter_mut().zip(sorts) {
+                times[r[0] as usize - 7] += u32::from(met);
+            }
+        }
+    }
+    assert!(times.iter().flatten().all(|times| *times > 100), "{times:?}");
+}
+
+/// Locations collide: there is something to drop in many of the lists, and much is kept.
 #[test]
 fn many_lists_have_something_to_drop() {
     let mut random = Random::new(14);

@@ -145,7 +145,7 @@ fn overflow_is_checked() -> bool {
 /// The original panics at questions 7 and 9, at 8 in a build with overflow checks, and nowhere
 /// else. At 9 its message has the index.
 fn panic_agrees(list: &List, no: Option<Refusal>) {
-    let result = caught(|| run::optimize(list));
+    let result = caught(|| run::original(list));
     match no {
         None => assert!(result.is_ok(), "{list:?}"),
         Some((7, _)) => assert!(result.is_err(), "{list:?}"),

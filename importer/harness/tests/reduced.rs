@@ -1,14 +1,14 @@
-//! What the original leaves, by what can be seen of it in more than one way.
+//! What the copies of the original leave, by what can be seen of it in more than one way.
 
 use std::collections::BTreeSet;
 
 use harness::how_many;
 use harness::kinds::{load, load_args, load_complex, load_const, save, MEM, PARAM, STACK};
-use harness::lists::{any_list, List};
+use harness::lists::{any_list, two_part_list, List};
 use harness::random::Random;
 use harness::record::WORDS;
 use harness::roles::{words_with, Role};
-use harness::run::{reduced, Ready};
+use harness::run::{left_by, reduced, Allocator, Amended, Ready, Unchanged};
 use harness::settings::Settings;
 
 /// The ends by their definition: each written Gen register makes a static, which ends at its last
@@ -58,25 +58,40 @@ fn cells(list: &List) -> BTreeSet<u32> {
     near.filter(|index| *index >= list.settings.fixed_mark()).collect()
 }
 
-/// The original's own read set, as far as its Saves show it, is what the records left read.
-#[test]
-fn members_in_the_original() {
+/// A copy's own read set, as far as its Saves show it, is what the records left read. How many of
+/// the list's cells are members, and how many are not.
+fn members_in<A: Allocator>(list: &List) -> [usize; 2] {
+    let cells: Vec<u32> = cells(list).into_iter().collect();
+    let mut ready = Ready::<A>::new(list);
+    ready.optimize();
+    let shown = ready.members_among(&cells);
+    let derived = left_by::<A>(list).members;
+    let is_member = |index: &&u32| derived.contains(&(STACK, **index));
+    assert!(cells.iter().filter(is_member).eq(&shown), "{list:?}");
+    [shown.len(), cells.len() - shown.len()]
+}
+
+fn members_in_a_copy<A: Allocator>(lists: impl Fn(&mut Random) -> List) {
     let mut random = Random::new(42);
-    let lists = how_many(100_000);
-    let (mut members, mut others) = (0, 0);
-    for _ in 0..lists {
-        let list = any_list(&mut random, 80);
-        let cells: Vec<u32> = cells(&list).into_iter().collect();
-        let mut ready = Ready::new(&list);
-        ready.optimize();
-        let shown = ready.members_among(&cells);
-        let derived = reduced(&list).members;
-        let is_member = |index: &&u32| derived.contains(&(STACK, **index));
-        assert!(cells.iter().filter(is_member).eq(&shown), "{list:?}");
-        members += shown.len() as u64;
-        others += (cells.len() - shown.len()) as u64;
+    let times = how_many(50_000) as usize;
+    let mut sums = [0, 0];
+    for _ in 0..times {
+        let [members, others] = members_in::<A>(&lists(&mut random));
+        sums = [sums[0] + members, sums[1] + others];
     }
-    assert!(members > lists / 2 && others > lists / 2, "{members} {others}");
+    assert!(sums.iter().all(|sum| *sum > times / 2), "{sums:?}");
+}
+
+#[test]
+fn members_in_the_unchanged_copy() {
+    members_in_a_copy::<Unchanged>(|random| any_list(random, 80));
+    members_in_a_copy::<Unchanged>(|random| two_part_list(random, 20));
+}
+
+#[test]
+fn members_in_the_amended_copy() {
+    members_in_a_copy::<Amended>(|random| any_list(random, 80));
+    members_in_a_copy::<Amended>(|random| two_part_list(random, 20));
 }
 
 /// In joining order, each once; a dropped load does not join.

@@ -1,12 +1,14 @@
 //! What the stored lists have between them, and the theorem that is made of them.
 
-use harness::kinds::{load, nop, LEFT, MEM, RET, RIGHT, TEMP};
+use harness::kinds::{load, nop, LEFT, RET, RIGHT, STACK, TEMP};
 use harness::lists::List;
 use harness::questions::refusal;
 use harness::record::{Record, WORDS};
+use harness::reduced::Reduced;
 use harness::roles::{role, Role, KINDS};
-use harness::run::{optimize, reduced};
+use harness::run::{both, optimize, reduced};
 use harness::stored_lists::{lists, Named};
+use harness::tally::By;
 use harness::theorem::text;
 
 /// All records of the stored lists.
@@ -41,8 +43,8 @@ fn times(words: &[u32], kind: u32) -> usize {
 }
 
 #[test]
-fn twelve_lists_that_pass() {
-    assert_eq!(lists().len(), 12);
+fn fifteen_lists_that_pass() {
+    assert_eq!(lists().len(), 15);
     for Named { name, list, .. } in lists() {
         assert_eq!(refusal(&list.settings, &list.words, &list.table, true), None, "{name}");
         let most = if name == "thirty-two" { 20 } else { 10 };
@@ -87,7 +89,7 @@ fn every_drop() {
     let mark = list_of("complex-mark");
     let after = optimize(&mark);
     assert_eq!((times(&mark.words, 7), times(&after, 7)), (3, 2), "LoadComplex");
-    assert_eq!((times(&mark.words, 8), times(&after, 8)), (4, 2), "SaveComplex");
+    assert_eq!((times(&mark.words, 8), times(&after, 8)), (4, 3), "SaveComplex");
     for kept in [4, 5, 6] {
         assert!(lists().iter().any(|named| times(&optimize(&named.list), kept) > 0));
     }
@@ -107,15 +109,77 @@ fn a_reset_by_each_of_four() {
     }
 }
 
-/// Three LoadComplex and a Load are dropped, the LoadComplex at 2 among them. With two Loads in its
-/// place it is still four: that of x is dropped, and that of y is put out.
+/// Whether a colour holds each half of a LoadComplex as it comes: a Load of the half, put before
+/// it, is dropped and changes nothing else.
+fn halves_held_at(list: &List, at: usize) -> [bool; 2] {
+    let record: Record = list.record(at).try_into().expect("a record");
+    let [_, x, y, space, index, ..] = record;
+    let free = if x < 32 { x } else { y };
+    let before = |half: u32| replaced(list, at, &[load(free, space, index + half), record]);
+    [0, 1].map(|half| optimize(&before(half)) == optimize(list))
+}
+
+/// The same of each LoadComplex in the list.
+fn halves_held(list: &List) -> Vec<[bool; 2]> {
+    let loads = (0..list.records()).filter(|at| list.record(*at)[0] == 7);
+    loads.map(|at| halves_held_at(list, at)).collect()
+}
+
+/// Every LoadComplex stays: none has both halves held, but for one with a named half.
 #[test]
-fn y_is_not_found() {
+fn a_half_is_not_found() {
     let list = list_of("complex-loads");
-    assert_eq!((times(&list.words, 7), times(&optimize(&list), 7)), (5, 2));
-    assert_eq!(dropped(&list)[1], 4);
-    let apart = replaced(&list, 2, &[load(2, MEM, 4), load(3, MEM, 5)]);
-    assert_eq!(dropped(&apart)[1], 4);
+    let expected = [[false, false], [true, false], [true, true], [true, true], [true, false]];
+    assert_eq!(halves_held(&list), expected);
+    assert_eq!(times(&optimize(&list), 7), 5);
+}
+
+/// Two go: those with both halves held, and no named one.
+#[test]
+fn each_half_is_found() {
+    let list = list_of("found-halves");
+    let both = [true, true];
+    assert_eq!(halves_held(&list), [[true, false], both, both, both, [false, true], both]);
+    let left = optimize(&list);
+    let loads = left.chunks_exact(WORDS).filter(|record| record[0] == 7);
+    let halves: Vec<_> = loads.map(|record| [record[1], record[2], record[4]]).collect();
+    assert_eq!(halves, [[0, 1, 16], [RET, 1, 16], [0, LEFT, 16], [2, 0, 15]]);
+    assert_eq!(times(&left, 6), 1, "the Save to a half that is found, but read by what is put out");
+}
+
+/// Both two-part loads stay, each with one half found, and the Saves to these halves stay for them.
+#[test]
+fn a_found_half_joins() {
+    let list = list_of("joining-halves");
+    assert_eq!(halves_held(&list), [[true, false], [false, true]]);
+    let Reduced { words, members, dropped, .. } = reduced(&list);
+    assert_eq!(dropped, [0; 4]);
+    assert_eq!(words.len(), list.words.len());
+    assert!(members.iter().map(|(_, index)| *index).eq([16, 17, 20, 21]));
+}
+
+#[test]
+fn each_half_is_read() {
+    let Reduced { words, members, .. } = reduced(&list_of("read-halves"));
+    let saves = words.chunks_exact(WORDS).filter(|record| record[0] == 8);
+    assert!(saves.map(|record| record[4]).eq([15, 18, 20]));
+    let read = members.iter().filter(|(space, _)| *space == STACK);
+    assert!(read.map(|(_, index)| *index).eq([18, 21]));
+}
+
+#[test]
+fn some_lists_are_left_otherwise_by_the_original() {
+    let parted = lists().into_iter().filter(|named| both(&named.list).by() == By::Amended);
+    let names: Vec<_> = parted.map(|named| named.name).collect();
+    let expected = [
+        "complex-mark",
+        "complex-loads",
+        "same-register",
+        "found-halves",
+        "joining-halves",
+        "read-halves",
+    ];
+    assert_eq!(names, expected);
 }
 
 #[test]
@@ -125,7 +189,7 @@ fn x_and_y_the_same_register() {
     assert!(has(|record| record[0] == 20 && record[2] == record[3]), "ComplexBi");
 }
 
-/// The right sides of the theorem are what the original says today.
+/// The right sides of the theorem are what the amended copy says today.
 #[test]
 fn the_stored_theorem_is_this_one() {
     let path = concat!(env!("CARGO_MANIFEST_DIR"), "/../../crates/passes/proofs/Lists.antt");

@@ -79,7 +79,7 @@ impl Reader {
         if let Operation::Optimize(lengths) = case.operation {
             assert_eq!([(); 5].map(|()| self.word() as usize), lengths);
             let prefixes = [(); 5].map(|()| self.part());
-            assert_eq!(prefixes, answers::optimize(&case.list, lengths).1);
+            assert_eq!(prefixes, answers::optimize(&case.list, lengths).lent);
         }
     }
 }

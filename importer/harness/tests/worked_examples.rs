@@ -1,29 +1,32 @@
-//! The original and the questions on the worked examples.
+//! Both copies of the original and the questions on the worked examples.
 
 use harness::panics::caught;
 use harness::questions::refusal;
-use harness::run::optimize;
+use harness::run::{left_by, Amended, Unchanged};
 use harness::worked_examples::{cases, Expected};
 
 #[test]
-fn the_original_gives_what_is_left() {
+fn both_copies_give_what_is_left() {
     let mut times = 0;
     for case in cases() {
         if let Expected::Left(records) = case.expected {
             times += 1;
-            assert_eq!(optimize(&case.list), records.concat(), "case {}", case.name);
+            for left in [left_by::<Unchanged>(&case.list), left_by::<Amended>(&case.list)] {
+                assert_eq!(left.words, records.concat(), "case {}", case.name);
+            }
         }
     }
     assert_eq!(times, 6);
 }
 
 #[test]
-fn the_original_panics_at_7_and_9() {
+fn both_copies_panic_at_7_and_9() {
     let mut times = 0;
     for case in cases() {
         if let Expected::Refused(7 | 9, _) = case.expected {
             times += 1;
-            assert!(caught(|| optimize(&case.list)).is_err(), "case {}", case.name);
+            assert!(caught(|| left_by::<Unchanged>(&case.list)).is_err(), "case {}", case.name);
+            assert!(caught(|| left_by::<Amended>(&case.list)).is_err(), "case {}", case.name);
         }
     }
     assert_eq!(times, 3);

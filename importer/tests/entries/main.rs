@@ -1,4 +1,4 @@
-//! The operations through the C entries, beside the original and the questions.
+//! The operations through the C entries, beside the copies of the original and the questions.
 
 mod arbitrary;
 mod exhaustive;

@@ -15,7 +15,7 @@ fn got(case: &Case) -> u64 {
         Operation::Optimize(lengths) => {
             let lent = filled(lengths);
             let (word, left) = called(&case.list, case.flag, &lent);
-            let prefixes = answers::optimize(&case.list, lengths).1;
+            let prefixes = answers::optimize(&case.list, lengths).lent;
             assert_eq!(left, with_prefixes(&lent, prefixes), "{:?}", case.list);
             word
         }

@@ -1,4 +1,4 @@
-//! The plain machine of docs/SPECIFICATION.md, section 5, for scalar straight-line lists. A seed
+//! The plain machine of docs/SPECIFICATION.md, section 5, for lists of straight kinds. A seed
 //! stands for the state that a run starts from and for what the operations give. Of the words that
 //! it makes up one in four is 0 or minus zero; the others are hardly ever alike by chance.
 
@@ -8,9 +8,20 @@ use rudzaviks::{Instruction, Loc, Reg};
 
 pub const MINUS_ZERO: u64 = 0x8000_0000_0000_0000;
 
+/// Where the second half of a complex value is.
+fn partner(loc: Loc) -> Loc {
+    loc.imag().expect("question 8 asks for a partner")
+}
+
 /// The test of IfElse.
 fn is_true(word: u64) -> bool {
     word != 0 && word != MINUS_ZERO
+}
+
+/// Runs instructions on a machine, and gives it back.
+pub fn run(code: &[Instruction], mut machine: Machine) -> Machine {
+    code.iter().for_each(|ins| machine.run(ins));
+    machine
 }
 
 #[derive(Default)]
@@ -62,11 +73,32 @@ impl Machine {
         self.word(op, &words)
     }
 
-    /// Runs one instruction, unless the run is over.
+    /// Runs one instruction, unless the run is over. Of two words x's is written first.
     pub fn run(&mut self, ins: &Instruction) {
         if self.over {
             return;
         }
+        match *ins {
+            Instruction::LoadComplex { xd, yd, loc } => {
+                self.regs.insert(xd, self.cell(loc));
+                self.regs.insert(yd, self.cell(partner(loc)));
+            }
+            Instruction::SaveComplex { xs, ys, loc } => {
+                self.set_cell(loc, self.reg(xs));
+                self.set_cell(partner(loc), self.reg(ys));
+            }
+            Instruction::ComplexBi { op, xd, yd, x1, y1, x2, y2 } => {
+                let half = |half: &str| self.op(format!("{op} {half}"), &[x1, y1, x2, y2]);
+                let [x, y] = ["x", "y"].map(half);
+                self.regs.insert(xd, x);
+                self.regs.insert(yd, y);
+            }
+            _ => self.run_scalar(ins),
+        }
+    }
+
+    /// Runs an instruction that writes at most one register or cell.
+    fn run_scalar(&mut self, ins: &Instruction) {
         let constant = |idx: u32| self.word("consts", &[u64::from(idx)]);
         let (dst, value) = match *ins {
             Instruction::Nop => return,

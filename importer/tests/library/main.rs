@@ -8,3 +8,4 @@ mod reduce;
 mod runs;
 mod support;
 mod text;
+mod two_part;

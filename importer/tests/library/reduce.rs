@@ -1,12 +1,13 @@
-//! `reduce` beside the original and the questions.
+//! `reduce` beside the copies of the original and the questions.
 
-use crate::support::{each_list, instructions, records, settings};
+use crate::support::{each_list, each_two_part_list, instructions, records, settings};
 use harness::how_many;
-use harness::lists::{list, Profile};
+use harness::lists::{list, List, Profile};
 use harness::questions::refusal;
 use harness::random::Random;
 use harness::run;
 use harness::settings::Settings;
+use harness::tally::{By, Tally};
 use harness::worked_examples::{cases, Expected};
 use rudzaviks::mir::{load_args, nop};
 use rudzaviks::record::Records;
@@ -29,21 +30,31 @@ fn the_worked_examples() {
     }
 }
 
+/// `reduce` leaves what is expected. By whose answer it was compared.
+fn reduced_as_expected(list: &List) -> By {
+    let reduced = reduce(&instructions(list), &settings(list)).expect("a list that passes");
+    let both = run::both(list);
+    let (by, expected) = (both.by(), both.expected());
+    let counts = reduced.counts;
+    let [records, statics, members, nops, loads, moves, saves] = expected.counts();
+    assert_eq!([counts.records, counts.statics, counts.members], [records, statics, members]);
+    assert_eq!(
+        [counts.nops, counts.loads, counts.moves, counts.saves],
+        [nops, loads, moves, saves]
+    );
+    let left = Records { list: expected.words, table: list.table.clone() };
+    assert_eq!(Ok(reduced.list), left.instructions());
+    by
+}
+
 #[test]
-fn lists_are_reduced_as_by_the_original() {
-    each_list(91, how_many(20_000), 700, |list| {
-        let reduced = reduce(&instructions(list), &settings(list)).expect("a list that passes");
-        let expected = run::reduced(list);
-        let counts = reduced.counts;
-        let [records, statics, members, nops, loads, moves, saves] = expected.counts();
-        assert_eq!([counts.records, counts.statics, counts.members], [records, statics, members]);
-        assert_eq!(
-            [counts.nops, counts.loads, counts.moves, counts.saves],
-            [nops, loads, moves, saves]
-        );
-        let left = Records { list: expected.words, table: list.table.clone() };
-        assert_eq!(Ok(reduced.list), left.instructions());
-    });
+fn lists_are_reduced_as_by_the_copies() {
+    let lists = how_many(20_000);
+    let mut tally = Tally::default();
+    let mut check = |list: &List| tally.add(reduced_as_expected(list));
+    each_list(91, lists, 700, &mut check);
+    each_two_part_list(94, lists, 40, &mut check);
+    tally.print("the library's reduce");
 }
 
 #[test]
@@ -53,7 +64,7 @@ fn lists_for_fewer_registers_are_refused() {
     for _ in 0..2_000 {
         let good = list(&mut random, &Profile::plain(20));
         let fewer = Settings { count_regs: random.below(4), ..good.settings };
-        let less = harness::lists::List { settings: fewer, ..good };
+        let less = List { settings: fewer, ..good };
         let answer = reduce(&instructions(&less), &settings(&less));
         let expected = refusal(&fewer, &less.words, &less.table, true);
         let expected = expected.map(|(number, index)| Refusal { number, index: index as u32 });

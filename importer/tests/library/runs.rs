@@ -1,17 +1,14 @@
 //! Runs on the plain machine: what a condition's word picks, that End stops a run, what two runs
-//! may differ in, and that a list and its reduced list end equal.
+//! may differ in, and that a list and its reduced list end equal. The two-part kinds have their own
+//! file.
 
-use crate::machine::{Machine, MINUS_ZERO};
-use crate::support::{instructions, settings, straight_list};
+use crate::machine::{run, Machine, MINUS_ZERO};
+use crate::support::{instructions, left_by_original, settings, straight_list};
 use harness::how_many;
 use harness::random::Random;
+use harness::tally::{By, Tally};
 use rudzaviks::mir::{end, fmov, ifelse, reg, save_mem};
 use rudzaviks::{reduce, Instruction, Loc, Reg};
-
-fn run(code: &[Instruction], mut machine: Machine) -> Machine {
-    code.iter().for_each(|ins| machine.run(ins));
-    machine
-}
 
 #[test]
 fn zero_and_minus_zero_pick_false_val() {
@@ -115,23 +112,35 @@ impl Conditions {
     }
 }
 
+/// Where a run of the list and one of what is left of it end otherwise.
+fn difference(before: &Machine, seed: u64, left: &[Instruction], mark: u64) -> Option<String> {
+    before.difference(&run(left, Machine::new(seed)), mark)
+}
+
+/// The same lists as the original leaves them are counted: some of them end otherwise.
 #[test]
 fn a_list_and_its_reduced_list_end_equal() {
     let mut random = Random::new(97);
     let lists = how_many(200_000);
     let mut met = Conditions::default();
+    let (mut tally, mut otherwise) = (Tally::default(), 0);
     for seed in 0..lists {
         let list = straight_list(&mut random);
-        let (code, settings) = (instructions(&list), settings(&list));
-        let reduced = reduce(&code, &settings).expect("a list that passes").list;
+        let (code, mark) = (instructions(&list), settings(&list).fixed_mark());
         let mut before = Machine::new(seed);
         for ins in &code {
             met.meet(ins, &before);
             before.run(ins);
         }
-        let after = run(&reduced, Machine::new(seed));
-        let difference = before.difference(&after, settings.fixed_mark());
-        assert_eq!(difference, None, "seed {seed}, {list:?}");
+        let reduced = reduce(&code, &settings(&list)).expect("a list that passes").list;
+        assert_eq!(difference(&before, seed, &reduced, mark), None, "seed {seed}, {list:?}");
+        let original = left_by_original(&list);
+        let same = original == reduced;
+        tally.add(if same { By::Original } else { By::Amended });
+        otherwise += u64::from(!same && difference(&before, seed, &original, mark).is_some());
     }
     assert!(met.0.iter().all(|times| *times > lists / 20), "{:?}", met.0);
+    tally.print("straight lists on the machine");
+    println!("by the original {otherwise} of them end otherwise, by the port none");
+    assert!(otherwise > lists / 100, "{otherwise}");
 }

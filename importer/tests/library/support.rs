@@ -1,7 +1,8 @@
 //! The harness's lists as the library holds them.
 
-use harness::lists::{any_list, list, List, Profile};
+use harness::lists::{any_list, list, two_part_list, List, Profile};
 use harness::random::Random;
+use harness::run;
 use rudzaviks::record::Records;
 use rudzaviks::{Instruction, Settings};
 
@@ -18,18 +19,42 @@ pub fn instructions(list: &List) -> Vec<Instruction> {
     records(list).instructions().expect("a list that passes has a meaning")
 }
 
+/// What the unchanged original leaves of a list.
+pub fn left_by_original(list: &List) -> Vec<Instruction> {
+    let left = Records { list: run::original(list).words, ..records(list) };
+    left.instructions().expect("records that are left have a meaning")
+}
+
 /// Random lists, one after the other.
-pub fn each_list(seed: u64, lists: u64, most_records: u32, mut check: impl FnMut(&List)) {
+pub fn each_list(seed: u64, lists: u64, most_records: u32, check: impl FnMut(&List)) {
+    each_of(any_list, seed, lists, most_records, check);
+}
+
+/// Random lists of mostly two-part records.
+pub fn each_two_part_list(seed: u64, lists: u64, most_records: u32, check: impl FnMut(&List)) {
+    each_of(two_part_list, seed, lists, most_records, check);
+}
+
+fn each_of(
+    generate: fn(&mut Random, u32) -> List,
+    seed: u64,
+    lists: u64,
+    most_records: u32,
+    mut check: impl FnMut(&List),
+) {
     let mut random = Random::new(seed);
     for _ in 0..lists {
-        check(&any_list(&mut random, most_records));
+        check(&generate(&mut random, most_records));
     }
 }
 
-/// A list that the plain machine runs. At least three in four have no End, so that a run gets far;
-/// Nop takes its weight, so that some kind has one.
+/// A list that the plain machine runs, one in two of mostly two-part records. At least three in
+/// four have no End, so that a run gets far; Nop takes its weight, so that some kind has one.
 pub fn straight_list(random: &mut Random) -> List {
-    let mut profile = Profile::random(random, 100).straight();
+    let two_part = random.percent(50);
+    let profile =
+        if two_part { Profile::two_part(random, 30) } else { Profile::random(random, 100) };
+    let mut profile = profile.straight();
     if random.percent(75) {
         let [nop, end, ..] = &mut profile.weights;
         (*nop, *end) = (*nop + *end, 0);

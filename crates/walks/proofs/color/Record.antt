@@ -1,15 +1,17 @@
 -- A record of a list that passes, on the lent slices: colouring it takes the slices of `colorTo` at i to those at i + 1, its
--- choices all pick a colour, and the mark of x says whether it was found.
+-- choices all pick a colour, and the marks of its statics say whether every destination was found.
 -- By the laws of destinations, and because a source's static is among those that have a colour.
 use Prim.Native.Nat.{ℕ, zero, suc, _+_, _-_, _<_, _≤_}
 use mathlib.Core.Bool.{Bool, true, false, cond, _&&_}
 use mathlib.Core.List.{List, [], _∷_, _++_, map}
 use mathlib.Core.Logic.{inl, inr}
-use mathlib.Core.Path.{_≡_, refl, sym, ap, subst, _∙_}
+use mathlib.Core.Path.{_≡_, refl, sym, ap, _∙_}
+use native.Mathlib.Nat.{add-zero}
 use native.Mathlib.Numerals.{add-one}
 use native.Mathlib.Omega.{arith}
 use lib.Dec.{leb}
 use lib.ListN.{length, getD, length-append}
+use lib.Seq.{getD-append-add}
 use borrow.Author.Tests.{ltb-false}
 use Rattle.mir.specs.declared.config.Settings.{Settings}
 use Rattle.mir.specs.declared.rename.Current.{Current}
@@ -19,7 +21,7 @@ use Rattle.mir.specs.Renaming.{one, gens, staticsTo, regsTo}
 use Rattle.mir.specs.Shapes.{shapeFor, dests, sources}
 use Rattle.mir.proofs.Passing.{ListPasses}
 use Rattle.passes.specs.declared.alloc.Held.{Held}
-use Rattle.passes.specs.Color.{Coloring, Setup, setup, colourOf, sourceWord, heldBy, wantX, wantY, wanted, updateAllocs, locOf, isFound, choiceFor, afterDest, sourcesAt, destsAt, foundFirst, foundAt, colorStep, colorTo}
+use Rattle.passes.specs.Color.{Coloring, Setup, setup, colourOf, sourceWord, heldBy, wantX, wantY, wanted, updateAllocs, locOf, isFound, choiceFor, afterDest, sourcesAt, destsAt, foundAll, foundAt, colorStep, colorTo}
 use Rattle.passes.specs.Create.{endsOf}
 use Rattle.passes.proofs.Create.{In, names-to, ends-length, ends-below, statics-mono}
 use Rattle.passes.proofs.NeverEmpty.{source-below, ready-to, choices-of, wanted-words}
@@ -149,41 +151,49 @@ module _ (s : Settings) (list table : List ℕ) (passes : ListPasses s list tabl
         ∙ ap (λ (σ : Slices). updateAllocs (shapeFor rec .action) (locOf rec) (getD (sourcesAt u i st) 0 0) (getD (sourcesAt u i st) 1 0) (σ .allocs)) d)
         (ap (λ (σ : Slices). σ .colours) d) (ap (λ (σ : Slices). σ .ends) d))
 
--- ---- whether x was found, read off its mark
+-- ---- whether every destination was found, read off the marks
 
--- the flag of the first destination
-flag-shows : (n i : ℕ) (E E0 : List ℕ) (st : Coloring) (fs : List Bool) (hx hy : Held) (k : ℕ) → ((j : ℕ) → j < length E → getD E j 0 < 65536)
-    → (ws : List ℕ) → k + gens ws ≤ length E → (0 < gens ws → getD fs k false ≡ getD (foundsFor n i E (wanted ws hx hy) st) 0 false)
-    → wasFound ws k (over (marked fs E) E0) ≡ foundFirst n i (wanted ws hx hy) st
-unfolding wasFound foundFirst foundsFor gens
-flag-shows n i E E0 st fs hx hy k small [] h e = refl
-flag-shows n i E E0 st fs hx hy k small (x ∷ ws) h e = go (isGen x) h e
-  where
-    go : (b : Bool) → k + (cond b 1 0 + gens ws) ≤ length E
-        → (0 < cond b 1 0 + gens ws → getD fs k false ≡ getD (cond b (isFound (choiceFor n i hx st) ∷ []) [] ++ foundsFor n i E (map (λ y. (y, hy)) ws) (afterDest n i E x hx st)) 0 false)
-        → (b && leb 65536 (getD (over (marked fs E) E0) k 0)) ≡ (b && isFound (choiceFor n i hx st))
-    go false l f = refl
-    go true l f =
-        let q : k < length E = omega arith in
-        ap (leb 65536) (over-get (marked fs E) E0 k 0 (rw (marked-length fs E) q) ∙ (marked-at fs E k q ∙ ap (λ g. getD E k 0 + mark g) (f (omega arith))))
-        ∙ mark-shows (getD E k 0) (isFound (choiceFor n i hx st)) (small k q)
+module _ (n i : ℕ) (E E0 : List ℕ) (fs : List Bool) (small : (k : ℕ) → k < length E → getD E k 0 < 65536) where
+  -- the flags that are marked agree from k on with m of others
+  abbrev Agree : ℕ → List Bool → ℕ → Type 0
+  Agree k gs m = (j : ℕ) → j < m → getD fs (k + j) false ≡ getD gs j false
 
-getD-seam {ℓ} : {A : Type ℓ} (xs ys : List A) (d : A) → getD (xs ++ ys) (length xs) d ≡ getD ys 0 d
-getD-seam [] ys d = refl
-getD-seam (x ∷ xs) ys d = getD-seam xs ys d
+  -- past a destination that is not Gen none counts
+  flags-show : (ds : List (ℕ × Held)) (st : Coloring) (k : ℕ) → k + gens (words ds) ≤ length E → Agree k (foundsFor n i E ds st) (gens (words ds))
+      → wasFound (words ds) k (over (marked fs E) E0) ≡ foundAll n i E ds st
+  unfolding wasFound foundAll foundsFor gens words
+  flags-show [] st k h e = refl
+  flags-show (d ∷ ds) st k h e = go (flags-show ds (afterDest n i E (d .0) (d .1) st) (k + 1)) (isGen (d .0)) h e
+    where
+      after : Coloring
+      after = afterDest n i E (d .0) (d .1) st
+
+      found : Bool
+      found = isFound (choiceFor n i (d .1) st)
+
+      shift : (j : ℕ) → k + 1 + j ≡ k + suc j
+      shift j = omega arith
+
+      go : (k + 1 + gens (words ds) ≤ length E → Agree (k + 1) (foundsFor n i E ds after) (gens (words ds)) → wasFound (words ds) (k + 1) (over (marked fs E) E0) ≡ foundAll n i E ds after)
+          → (b : Bool) → k + (cond b 1 0 + gens (words ds)) ≤ length E → Agree k (cond b (found ∷ []) [] ++ foundsFor n i E ds after) (cond b 1 0 + gens (words ds))
+          → (b && leb 65536 (getD (over (marked fs E) E0) k 0) && wasFound (words ds) (k + cond b 1 0) (over (marked fs E) E0)) ≡ (b && found && foundAll n i E ds after)
+      go up false l a = refl
+      go up true l a =
+          let q : k < length E = omega arith in
+          let x : getD fs k false ≡ found = rw (add-zero k) at (a 0 (omega arith)) in
+          rw (over-get (marked fs E) E0 k 0 (rw (marked-length fs E) q), marked-at fs E k q, x, mark-shows (getD E k 0) found (small k q), up (omega arith) (λ j z. rw (shift j) (a (suc j) (omega arith)))) refl
 
 module _ (s : Settings) (list table : List ℕ) (passes : ListPasses s list table) (C0 E0 : List ℕ) (wide : length (endsOf list) ≤ length C0) (i : ℕ) (l : i < records list) where
-  -- with any flags that agree with the walk's where the record's first static stands, if it makes one
-  pub found-flags : (fs : List Bool) → (0 < gens (dests (recordAt list i)) → getD fs (staticsTo list i) false ≡ getD (foundsTo (setup s list table) (suc i)) (staticsTo list i) false)
+  -- with any flags that agree with the walk's where the record's statics stand
+  pub found-flags : (fs : List Bool)
+      → ((j : ℕ) → j < gens (dests (recordAt list i)) → getD fs (staticsTo list i + j) false ≡ getD (foundsTo (setup s list table) (suc i)) (staticsTo list i + j) false)
       → wasFound (dests (recordAt list i)) (staticsTo list i) (over (marked fs (endsOf list)) E0) ≡ foundAt (setup s list table) i (colorTo (setup s list table) i)
   unfolding foundsTo
   found-flags fs e =
-      flag-shows (s .«count_regs») i (endsOf list) E0 (colorTo (setup s list table) i) fs _ _ (staticsTo list i) (small s list table passes C0 E0 wide) (dests (recordAt list i)) (room s list table passes C0 E0 wide i l)
-      (λ z. e z
-      ∙ subst (λ k. getD (foundsTo (setup s list table) i ++ rest) k false ≡ getD rest 0 false) (founds-length s list table passes C0 E0 wide i) (getD-seam (foundsTo (setup s list table) i) rest false))
-    where
-      rest : List Bool
-      rest = foundsFor (s .«count_regs») i (endsOf list) (destsAt (setup s list table) i (colorTo (setup s list table) i)) (colorTo (setup s list table) i)
+      ap (λ ws. wasFound ws (staticsTo list i) (over (marked fs (endsOf list)) E0)) (sym (wanted-words (dests (recordAt list i)) _ _))
+      ∙ flags-show (s .«count_regs») i (endsOf list) E0 fs (small s list table passes C0 E0 wide) (destsAt (setup s list table) i (colorTo (setup s list table) i)) (colorTo (setup s list table) i) (staticsTo list i)
+      (words-room s list table passes C0 E0 wide i l)
+      (λ j z. e j (rw (wanted-words (dests (recordAt list i))) at z) ∙ rw (← (founds-length s list table passes C0 E0 wide i)) (getD-append-add (foundsTo (setup s list table) i) _ j false))
 
   pub found-after : wasFound (dests (recordAt list i)) (staticsTo list i) (slicesTo s list table passes C0 E0 wide (i + 1) .ends) ≡ foundAt (setup s list table) i (colorTo (setup s list table) i)
-  found-after = rw (add-one i) (found-flags (foundsTo (setup s list table) (suc i)) (λ z. refl))
+  found-after = rw (add-one i) (found-flags (foundsTo (setup s list table) (suc i)) (λ j z. refl))

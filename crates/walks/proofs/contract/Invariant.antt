@@ -32,7 +32,7 @@ use Rattle.walks.proofs.color.Dests.{marked-length}
 use Rattle.walks.proofs.Over.{over-length, over-after}
 use Rattle.walks.proofs.locs.Pairs.{set-members, words-length}
 use Rattle.walks.proofs.color.Record.{all-statics, small, room, founds-length, found-flags}
-use Rattle.walks.proofs.contract.Marks.{seen, seen-none, seen-at, seen-all, unmark-record}
+use Rattle.walks.proofs.contract.Marks.{seen, seen-none, seen-past, seen-all, unmark-record}
 use Rattle.walks.proofs.Registers.{Walked, passing-list, walked-known}
 
 -- the counts of the first i records
@@ -216,22 +216,20 @@ module _ (g : Call) where
           ),
         )
 
-    more : 0 < gens (dests (recordAt list i)) → staticsTo list i < staticsTo list (suc i)
-    unfolding staticsTo
-    more z = omega arith
-
     found-is : wasFound (dests rec) statics ends ≡ foundAt u i (colorTo u i)
+    unfolding staticsTo
     found-is = rw (inv .ends-are, w .statics-are, e) (found-flags s list table passes C E0 wide i l (seen (staticsTo list i) (foundsTo u (records list))) flag)
       where
-        next-in : 0 < gens (dests (recordAt list i)) → staticsTo list i < length (foundsTo u (suc i))
-        next-in z = rw (founds-length s list table passes C E0 wide (suc i)) (more z)
+        inside : (j : ℕ) → j < gens (dests (recordAt list i)) → staticsTo list i + j < length (foundsTo u (suc i))
+        inside j z = rw (founds-length s list table passes C E0 wide (suc i)) (omega arith)
 
-        -- the flag of the record's first static stayed
-        flag : 0 < gens (dests (recordAt list i)) → getD (seen (staticsTo list i) (foundsTo u (records list))) (staticsTo list i) false ≡ getD (foundsTo u (suc i)) (staticsTo list i) false
-        flag z =
+        -- the flags of the record's statics stayed
+        flag : (j : ℕ) → j < gens (dests (recordAt list i))
+            → getD (seen (staticsTo list i) (foundsTo u (records list))) (staticsTo list i + j) false ≡ getD (foundsTo u (suc i)) (staticsTo list i + j) false
+        flag j z =
             let k : (records list - suc i) + suc i ≡ records list = omega arith in
             let g = subst (λ n. Grows (foundsTo u (suc i)) (foundsTo u n)) k (founds-grow u (records list - suc i) (suc i)) in
-            seen-at (staticsTo list i) (foundsTo u (records list)) ∙ grows-get false (staticsTo list i) g (next-in z)
+            seen-past (staticsTo list i) (staticsTo list i + j) (foundsTo u (records list)) (omega arith) ∙ grows-get false (staticsTo list i + j) g (inside j z)
 
     written-is : rewritten regs statics C rec ≡ outAt u i
     written-is =

@@ -25,11 +25,13 @@ pub seen-none : (fs : List Bool) → seen 0 fs ≡ fs
 unfolding seen
 seen-none fs = refl
 
-pub seen-at : (k : ℕ) (fs : List Bool) → getD (seen k fs) k false ≡ getD fs k false
+-- the others stay
+pub seen-past : (k j : ℕ) (fs : List Bool) → k ≤ j → getD (seen k fs) j false ≡ getD fs j false
 unfolding seen
-seen-at zero fs = refl
-seen-at (suc k) [] = refl
-seen-at (suc k) (f ∷ fs) = seen-at k fs
+seen-past zero j fs h = refl
+seen-past (suc k) j [] h = refl
+seen-past (suc k) zero (f ∷ fs) h = absurd (omega arith)
+seen-past (suc k) (suc j) (f ∷ fs) h = seen-past k j fs (omega arith)
 
 set-same : (xs : List ℕ) (k : ℕ) → set xs k (getD xs k 0) ≡ xs
 set-same [] k = refl

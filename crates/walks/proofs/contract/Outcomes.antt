@@ -31,8 +31,8 @@ module _ (mark : ℕ) (ms : List Loc) (found : Bool) (rec : List ℕ) where
   abbrev beyond : Loc → Bool
   beyond l = isBeyond mark l && not (isMember l ms)
 
-  abbrev beyond-both : Loc → Bool
-  beyond-both l = isBeyond mark l && not (isMember l ms && isMember (partner l) ms)
+  abbrev beyond-either : Loc → Bool
+  beyond-either l = isBeyond mark l && not (isMember l ms || isMember (partner l) ms)
 
   abbrev by : ℕ → Action → Loc → Bool → Outcome
   by kind action l same =
@@ -40,7 +40,7 @@ module _ (mark : ℕ) (ms : List Loc) (found : Bool) (rec : List ℕ) where
       (cond (isLoad action && found) Load
       (cond (eqb kind mov && same) Move
       (cond (eqb kind save && beyond l) Save
-      (cond (eqb kind saveComplex && beyond-both l) Save Kept))))
+      (cond (eqb kind saveComplex && beyond-either l) Save Kept))))
 
   at : (k : ℕ) → wordAt rec 0 ≡ k → outcomeOf mark ms found rec ≡ by k (shapeOf k .action) (locOf rec) (eqb (wordAt rec 1) (wordAt rec 2))
   unfolding outcomeOf
@@ -66,7 +66,7 @@ module _ (mark : ℕ) (ms : List Loc) (found : Bool) (rec : List ℕ) where
   outcome-load-complex e = at 7 e
 
   pub outcome-save-complex : wordAt rec 0 ≡ 8
-      → outcomeOf mark ms found rec ≡ cond (isBeyond mark (locOf rec) && not (isMember (locOf rec) ms && isMember (partner (locOf rec)) ms)) Save Kept
+      → outcomeOf mark ms found rec ≡ cond (isBeyond mark (locOf rec) && not (isMember (locOf rec) ms || isMember (partner (locOf rec)) ms)) Save Kept
   unfolding shapeOf
   outcome-save-complex e = at 8 e
 

@@ -1,4 +1,4 @@
-//! Prints the stored lists as antt text, with what the original makes of each.
+//! Prints the stored lists as antt text, with what the amended copy makes of each.
 
 use harness::{stored_lists, theorem};
 

@@ -1,88 +1,89 @@
-//! Every short list over two registers and two cells.
+//! Every short list over two registers and two or three cells.
 
-use super::support::agree_with_room;
-use harness::kinds::{load_const, STACK};
-use harness::lists::List;
+use super::support::compared_with_room;
+use harness::kinds::load_const;
 use harness::random::Random;
-use harness::record::{Record, WORDS};
-use harness::roles::{role, words_with, Role, KINDS};
-use harness::settings::Settings;
+use harness::record::Record;
+use harness::roles::KINDS;
+use harness::short::{every_list, records, Cells};
+use harness::tally::{By, Tally};
 
-const TWO_REGISTERS: Settings =
-    Settings { count_regs: 2, args: 0, complex: false, arm: false, compress: false };
-
-/// Every record of the kind over Gen 0 and 1 and two Stack cells from the given one on. A LoadArgs
-/// names either cell; other fields are 0.
-fn records(kind: u32, cell: u32) -> Vec<Record> {
-    let is_free =
-        |role| matches!(role, Role::Source | Role::Destination | Role::Space | Role::First);
-    let free = words_with(kind, is_free);
-    let record = |choices: u32| {
-        let mut record = [0; WORDS];
-        record[0] = kind;
-        for (bit, word) in free.iter().enumerate() {
-            let choice = choices >> bit & 1;
-            match role(kind, *word) {
-                Role::Space => record[*word..word + 2].copy_from_slice(&[STACK, cell + choice]),
-                Role::First => record[*word..word + 2].copy_from_slice(&[choice, 1]),
-                _ => record[*word] = choice,
-            }
-        }
-        record
-    };
-    (0..1 << free.len()).map(record).collect()
-}
-
-/// Every list of so many records of the kinds, after the given first ones.
-fn every_list(first: &[Record], kinds: &[u32], cell: u32, len: u32) {
+/// Every list of so many of the records, after the given first ones.
+fn agree_on_every_list(tally: &mut Tally, first: &[Record], records: &[Record], len: u32) {
     let mut random = Random::new(u64::from(len));
-    let records: Vec<Record> = kinds.iter().flat_map(|kind| records(*kind, cell)).collect();
-    for code in 0..records.len().pow(len) {
-        let choice = |at| records[code / records.len().pow(at) % records.len()];
-        let words = first.iter().copied().chain((0..len).map(choice)).flatten();
-        let table = vec![STACK, cell, STACK, cell + 1];
-        let list = List { settings: TWO_REGISTERS, table, words: words.collect() };
-        agree_with_room(&mut random, &list);
-    }
+    every_list(first, records, len)
+        .for_each(|list| tally.add(compared_with_room(&mut random, &list).1));
 }
 
 /// Alone, where a Gen that is read first is refused, and after both registers are written.
-fn every_list_alone_and_after(kinds: &[u32], cell: u32, len: u32) {
-    every_list(&[], kinds, cell, len);
-    every_list(&[load_const(0, 0), load_const(1, 1)], kinds, cell, len);
+fn alone_and_after(tally: &mut Tally, records: &[Record], len: u32) {
+    agree_on_every_list(tally, &[], records, len);
+    agree_on_every_list(tally, &[load_const(0, 0), load_const(1, 1)], records, len);
 }
-
-/// All kinds, but for Fused and ComplexBi.
-const MOST_KINDS: [u32; 19] = [0, 1, 2, 3, 4, 5, 6, 7, 8, 9, 10, 11, 12, 14, 15, 16, 17, 18, 19];
 
 #[test]
 fn every_list_of_two_records() {
     let kinds: Vec<u32> = (0..KINDS as u32).collect();
+    let mut tally = Tally::default();
     for (cell, len) in [(15, 0), (15, 1), (16, 1), (15, 2), (16, 2)] {
-        every_list_alone_and_after(&kinds, cell, len);
+        alone_and_after(&mut tally, &records(&kinds, Cells(cell, 3)), len);
     }
+    tally.print("every list of up to two records");
+}
+
+/// All kinds, but for Fused and ComplexBi.
+fn every_list_of_three_records(cell: u32) {
+    let kinds = [0, 1, 2, 3, 4, 5, 6, 7, 8, 9, 10, 11, 12, 14, 15, 16, 17, 18, 19];
+    let mut tally = Tally::default();
+    alone_and_after(&mut tally, &records(&kinds, Cells(cell, 2)), 3);
+    tally.print(&format!("every list of three records, from cell {cell} on"));
 }
 
 #[test]
 fn every_list_of_three_records_below_and_at_the_mark() {
-    every_list_alone_and_after(&MOST_KINDS, 15, 3);
+    every_list_of_three_records(15);
 }
 
 #[test]
 fn every_list_of_three_records_from_the_mark_on() {
-    every_list_alone_and_after(&MOST_KINDS, 16, 3);
+    every_list_of_three_records(16);
 }
 
-/// Mov, Load, Save and LoadConst.
+/// Mov, loads and saves, LoadConst, and ComplexBi on a value and itself.
+#[test]
+fn every_list_of_three_records_with_complex_bi() {
+    let mut tally = Tally::default();
+    for cell in [15, 16] {
+        let mut chosen = records(&[4, 5, 6, 7, 8, 9, 20], Cells(cell, 3));
+        chosen.retain(|r| r[0] != 20 || r[4..6] == r[6..8]);
+        alone_and_after(&mut tally, &chosen, 3);
+    }
+    tally.print("every list of three records with ComplexBi");
+}
+
+/// Mov, Load, Save and LoadConst: no such list leaves the oracle runs.
 #[test]
 fn every_list_of_five_scalar_records() {
-    every_list(&[], &[4, 5, 6, 9], 16, 5);
+    let mut tally = Tally::default();
+    agree_on_every_list(&mut tally, &[], &records(&[4, 5, 6, 9], Cells(16, 2)), 5);
+    assert!(tally.of(By::Original) > 0 && tally.of(By::Amended) == 0);
 }
 
-/// LoadComplex, SaveComplex and LoadConst, after both registers are written.
-#[test]
-fn every_list_of_four_complex_records() {
-    for cell in [15, 16] {
-        every_list_alone_and_after(&[7, 8, 9], cell, 4);
+/// Load, Save, LoadComplex, SaveComplex and LoadConst.
+fn every_list_of_loads_and_saves(cell: u32) {
+    let mut tally = Tally::default();
+    for len in 3..=4 {
+        alone_and_after(&mut tally, &records(&[5, 6, 7, 8, 9], Cells(cell, 3)), len);
     }
+    tally.print(&format!("every list of three or four loads and saves, from cell {cell} on"));
+}
+
+#[test]
+fn every_list_of_loads_and_saves_below_and_at_the_mark() {
+    every_list_of_loads_and_saves(15);
+}
+
+#[test]
+fn every_list_of_loads_and_saves_from_the_mark_on() {
+    every_list_of_loads_and_saves(16);
 }

@@ -1,10 +1,14 @@
 //! Lists that were chosen by hand.
 
 use super::refusals::refused;
-use super::support::{agree_with_room, passes};
+use super::support::{agree_with_room, compare, passes};
+use harness::lent::{with_prefixes, with_room};
+use harness::panics::caught;
 use harness::random::Random;
+use harness::stored_lists::Named;
+use harness::tally::By;
 use harness::worked_examples::Expected;
-use harness::{limits, stored_lists, worked_examples};
+use harness::{limits, run, stored_lists, worked_examples};
 
 #[test]
 fn the_worked_examples() {
@@ -12,7 +16,7 @@ fn the_worked_examples() {
     for case in worked_examples::cases() {
         match case.expected {
             Expected::Left(records) => {
-                let counts = passes(&mut random, &case.list);
+                let (counts, _) = passes(&mut random, &case.list);
                 assert_eq!(counts.records as usize, records.len(), "case {}", case.name);
             }
             Expected::Refused(number, index) => {
@@ -28,6 +32,23 @@ fn the_stored_lists() {
     let mut random = Random::new(702);
     for named in stored_lists::lists() {
         passes(&mut random, &named.list);
+    }
+}
+
+/// The comparison tells what the unchanged copy leaves from what is expected, where they part.
+#[test]
+fn the_unchanged_copy_is_told_from_the_port() {
+    let mut random = Random::new(704);
+    for Named { name, list, .. } in stored_lists::lists() {
+        let lent = with_room(&mut random, &list);
+        let both = run::both(&list);
+        let records = u64::from(both.original.counts()[0]);
+        let answered = (records, with_prefixes(&lent, both.original.lent()));
+        let compared = caught(|| compare(&list, &lent, &answered));
+        match both.by() {
+            By::Amended => assert!(compared.is_err(), "{name}"),
+            by => assert_eq!(compared, Ok(by), "{name}"),
+        }
     }
 }
 

@@ -1,20 +1,24 @@
-//! Random lists, reduced through the C entry and by the original.
+//! Random lists, reduced through the C entry and by the copies of the original.
 
 use super::support::{agree_with_room, passes};
 use crate::arbitrary::arbitrary_list;
 use harness::damage::damaged;
-use harness::lists::{any_list, list, Profile};
+use harness::lists::{any_list, list, two_part_list, Profile};
 use harness::random::Random;
 use harness::settings::Settings;
+use harness::tally::Tally;
 use harness::{how_many, limits, run};
 use rudzaviks::ffi::{self, optimize, Answer, Buffers, Counts};
 
 fn passing(seed: u64, lists: u64) {
     let mut random = Random::new(seed);
     let mut times = [0u64; 8];
+    let mut tally = Tally::default();
     for _ in 0..lists {
         let list = any_list(&mut random, 200);
-        let Counts { statics, members, nops, loads, moves, saves, .. } = passes(&mut random, &list);
+        let (counts, by) = passes(&mut random, &list);
+        tally.add(by);
+        let Counts { statics, members, nops, loads, moves, saves, .. } = counts;
         let many = u32::from(members > 20);
         let complex = u32::from(list.settings.complex);
         for (times, seen) in
@@ -24,6 +28,7 @@ fn passing(seed: u64, lists: u64) {
         }
     }
     assert!(times.iter().all(|times| *times > lists / 100), "{times:?}");
+    tally.print(&format!("optimize, any lists of seed {seed}"));
 }
 
 #[test]
@@ -34,6 +39,27 @@ fn passing_lists() {
 #[test]
 fn more_passing_lists() {
     passing(502, how_many(1_000_000) / 2);
+}
+
+/// Up to so many records each.
+fn two_part(seed: u64, lists: u64, most_records: u32) {
+    let mut random = Random::new(seed);
+    let mut tally = Tally::default();
+    for _ in 0..lists {
+        let list = two_part_list(&mut random, most_records);
+        tally.add(passes(&mut random, &list).1);
+    }
+    tally.print(&format!("optimize, two-part lists of up to {most_records} records"));
+}
+
+#[test]
+fn two_part_lists() {
+    two_part(509, how_many(300_000), 12);
+}
+
+#[test]
+fn longer_two_part_lists() {
+    two_part(510, how_many(300_000) / 10, 32);
 }
 
 #[test]

@@ -1,6 +1,6 @@
 //! Lists that were chosen by hand.
 
-use super::support::{agree, agree_with_room, called, passes};
+use super::support::{agree, agree_with_room, called, passes, Called};
 use harness::answers::refused;
 use harness::file::{encode, records, room, LONGEST, MOST};
 use harness::kinds::{load_args, save, RET, STACK};
@@ -16,7 +16,7 @@ fn the_worked_examples() {
     for case in worked_examples::cases() {
         let file = encode(&case.list, 1);
         for longer in [0, 1, 70] {
-            let (word, out) = called(&mut random, &file, room(&case.list) + longer);
+            let Called { word, out, .. } = called(&mut random, &file, room(&case.list) + longer);
             match &case.expected {
                 Expected::Left(left) => {
                     assert_eq!(word as usize, left.len(), "case {}", case.name);
@@ -75,7 +75,7 @@ fn a_save_stays_where_its_pair_is_named() {
         let words = saves.chain([named]).flatten().collect();
         let mut list = List { settings, table, words };
         let stay = saved.iter().filter(|pair| (start..end).contains(*pair)).count();
-        assert_eq!(passes(&mut random, &list), stay + 1);
+        assert_eq!(passes(&mut random, &list).0, stay + 1);
         // a pair of no space is asked for only where it is named
         let bad = random.pick(&[0, start, end.max(1) - 1, MOST - 1]).min(MOST - 1);
         list.table[2 * bad] = 3;

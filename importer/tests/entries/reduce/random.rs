@@ -1,15 +1,16 @@
-//! Random files, reduced through the C entry and by the original.
+//! Random files, reduced through the C entry and by the copies of the original.
 
 use super::support::{agree, agree_with_room, passes};
 use crate::arbitrary::{any_word, arbitrary_list};
 use harness::damage::damaged;
 use harness::file::{encode, room, with_word, MOST};
 use harness::how_many;
-use harness::lists::{any_list, list, List, Profile};
+use harness::lists::{any_list, list, two_part_list, List, Profile};
 use harness::random::Random;
 use harness::record::WORDS;
 use harness::roles::KINDS;
 use harness::settings::set_flag;
+use harness::tally::Tally;
 
 /// One bit for each kind that the list has.
 fn kinds(list: &List) -> u32 {
@@ -20,9 +21,12 @@ fn passing(seed: u64, lists: u64) {
     let mut random = Random::new(seed);
     let mut times = [0u64; KINDS];
     let mut shortened = 0;
+    let mut tally = Tally::default();
     for _ in 0..lists {
         let list = any_list(&mut random, 80);
-        shortened += u64::from(passes(&mut random, &list) < list.records());
+        let (left, by) = passes(&mut random, &list);
+        tally.add(by);
+        shortened += u64::from(left < list.records());
         let kinds = kinds(&list);
         for (kind, times) in times.iter_mut().enumerate() {
             *times += u64::from(kinds >> kind & 1);
@@ -30,6 +34,7 @@ fn passing(seed: u64, lists: u64) {
     }
     assert!(shortened > lists / 4, "{shortened}");
     assert!(times.iter().all(|times| *times > lists / 20), "{times:?}");
+    tally.print(&format!("reduce, any lists of seed {seed}"));
 }
 
 #[test]
@@ -40,6 +45,17 @@ fn passing_lists() {
 #[test]
 fn more_passing_lists() {
     passing(802, how_many(500_000) / 2);
+}
+
+#[test]
+fn two_part_lists() {
+    let mut random = Random::new(811);
+    let mut tally = Tally::default();
+    for _ in 0..how_many(100_000) {
+        let list = two_part_list(&mut random, 20);
+        tally.add(passes(&mut random, &list).1);
+    }
+    tally.print("reduce, two-part lists");
 }
 
 /// A list of any profile with so many records and pairs.

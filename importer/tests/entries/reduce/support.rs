@@ -9,6 +9,7 @@ use harness::file;
 use harness::lists::List;
 use harness::random::Random;
 use harness::settings::set_flag;
+use harness::tally::By;
 use rudzaviks::ffi::reduce_word;
 
 /// How many bytes, or up to seven more, are on each side of the lent ones.
@@ -51,41 +52,52 @@ impl Guarded {
     }
 }
 
-/// The entry answers and leaves what is expected, and leaves the file as it was. The answered word,
-/// and what the output then holds.
-pub fn called(random: &mut Random, file: &[u8], out_len: usize) -> (u64, Vec<u8>) {
+/// What the entry answered, what the output then holds, and by whose answer they were compared.
+pub struct Called {
+    pub word: u64,
+    pub out: Vec<u8>,
+    by: By,
+}
+
+/// The entry answers and leaves what is expected, and leaves the file as it was.
+pub fn called(random: &mut Random, file: &[u8], out_len: usize) -> Called {
     let mut read = Guarded::around(random, file);
     let mut out = Guarded::filled(random, out_len);
     let before = (read.clone(), out.clone());
     let word = reduce_word(read.lent_mut(), out.lent_mut());
-    let (expected, prefix) = answers::reduce(file, out_len);
+    let answers::Answer { word: expected, lent, by } = answers::reduce(file, out_len);
     assert_eq!(word, expected, "{out_len} bytes for {}", shown_file(file));
-    let expected = before.1.with_prefix(&prefix);
+    let expected = before.1.with_prefix(&lent);
     if out != expected {
         let difference = out.difference(&expected).expect("one of the bytes");
         panic!("{difference:?} of {out_len} bytes for {}", shown_file(file));
     }
     assert!(*black_box(&mut read) == before.0, "the file was changed: {}", shown_file(file));
-    (word, out.lent_mut().to_vec())
+    Called { word, out: out.lent_mut().to_vec(), by }
 }
 
 /// The answered word, where all is as expected.
 pub fn agree(random: &mut Random, file: &[u8], out_len: usize) -> u64 {
-    called(random, file, out_len).0
+    called(random, file, out_len).word
 }
 
-/// `agree` on the list's file, with an output as long as is asked or a little longer.
-pub fn agree_with_room(random: &mut Random, list: &List) -> u64 {
+/// `called` on the list's file, with an output as long as is asked or a little longer.
+fn called_with_room(random: &mut Random, list: &List) -> Called {
     let longer = if random.percent(50) { 0 } else { random.index(80) };
     let file = file::encode(list, set_flag(random));
-    agree(random, &file, file::room(list) + longer)
+    called(random, &file, file::room(list) + longer)
 }
 
-/// `agree_with_room` on a list that passes: how many records are left.
-pub fn passes(random: &mut Random, list: &List) -> usize {
-    let word = agree_with_room(random, list);
+/// The answered word, where all is as expected.
+pub fn agree_with_room(random: &mut Random, list: &List) -> u64 {
+    called_with_room(random, list).word
+}
+
+/// `called_with_room` on a list that passes: how many records are left, and by whose answer.
+pub fn passes(random: &mut Random, list: &List) -> (usize, By) {
+    let Called { word, by, .. } = called_with_room(random, list);
     assert!(word <= list.records() as u64, "refused: {}", shown(list));
-    word as usize
+    (word as usize, by)
 }
 
 /// The file is refused with the number, by its form or as a whole.
