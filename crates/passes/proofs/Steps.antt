@@ -135,13 +135,17 @@ module _ {Value : Type 0} (m : Meaning Value) (p : Place) {A B : State Value} (g
   writes : {vs : List Value} → Writes vs → cond kept (effect m out B) B ≡ writeAll (dsts p) vs B → Steps
   writes {vs} w run = stepped (w .list-run) run (inl (dests-after p (w .stays) g vs (w .valued)))
 
-  -- they are computed: the destinations are wanted with nothing, and the record is kept
-  computes : (vs : List Value) → length (dests (rec p)) ≡ length vs → shapeFor (rec p) .action ≡ action.Other → kept ≡ true
-      → effect m (rec p) A ≡ writeAll (dests (rec p)) vs A → effect m out B ≡ writeAll (dsts p) vs B → Steps
-  computes vs all other stays a b =
+  -- the reduced run's state, with registers as the list's record names them
+  abbrev through : State Value
+  through = record { reg = λ w. B .reg (src p w); cell = B .cell; const = B .const; over = B .over }
+
+  -- they are computed, from what is the same in both runs: the destinations are wanted with nothing, and the record is kept
+  computes : (f : State Value → List Value) → f through ≡ f A → length (dests (rec p)) ≡ length (f A) → shapeFor (rec p) .action ≡ action.Other
+      → kept ≡ true → effect m (rec p) A ≡ writeAll (dests (rec p)) (f A) A → effect m out B ≡ writeAll (dsts p) (f through) B → Steps
+  computes f same all other stays a b =
       writes
-      (record { stays = λ l x y allocs. rw other; valued = rw other (any-values (A .cell) (dests (rec p)) vs all); list-run = a })
-      (rw stays b)
+      (record { stays = λ l x y allocs. rw other; valued = rw other (any-values (A .cell) (dests (rec p)) (f A) all); list-run = a })
+      (rw stays (b ∙ ap (λ vs. writeAll (dsts p) vs B) same))
 
   -- they are loaded: a found colour has the cell's value already, and the record is dropped if all were found; else every
   -- location joins the read set, so that the cells are the same in both runs
@@ -397,19 +401,21 @@ module _ {Value : Type 0} (m : Meaning Value) (p : Place) {A B : State Value} (g
         (λ (k : ℕ). Is k → Steps)
         nop-step
         end-step
-        (λ e. computes (m .uni w1 (A .reg w3) ∷ []) (rw e) (rw e) (rw e) (rw e) (rw (e, same w3 (rw e (inl refl)))))
-        (λ e. computes (m .bi w1 (A .reg w3) (A .reg w4) ∷ []) (rw e) (rw e) (rw e) (rw e) (rw (e, same w3 (rw e (inl refl)), same w4 (rw e (inr (inl refl))))))
+        (λ e. computes (λ st. m .uni w1 (st .reg w3) ∷ []) (rw (same w3 (rw e (inl refl)))) (rw e) (rw e) (rw e) (rw e) (rw e))
+        (λ e. computes (λ st. m .bi w1 (st .reg w3) (st .reg w4) ∷ []) (rw (same w3 (rw e (inl refl)), same w4 (rw e (inr (inl refl))))) (rw e) (rw e) (rw e) (rw e) (rw e))
         mov-step
         load-step
         save-step
-        (λ e. computes (A .const w2 ∷ []) (rw e) (rw e) (rw e) (rw e) (rw (e, g .sim .const w2)))
-        (λ e. computes (m .fused w1 (A .reg w3) (A .reg w4) (A .reg w5) ∷ []) (rw e) (rw e) (rw e) (rw e)
-        (rw (e, same w3 (rw e (inl refl)), same w4 (rw e (inr (inl refl))), same w5 (rw e (inr (inr (inl refl)))))))
-        (λ e. computes (m .select (A .cell w4 w5) (A .reg w2) (A .reg w3) ∷ []) (rw e) (rw e) (rw e) (rw e)
-        (rw (e, same-cell w4 w5 (rw e (inl refl)), same w2 (rw e (inl refl)), same w3 (rw e (inr (inl refl))))))
-        (λ e. computes (m .bi w1 (A .reg w3) (A .cell w4 w5) ∷ []) (rw e) (rw e) (rw e) (rw e) (rw (e, same-cell w4 w5 (rw e (inl refl)), same w3 (rw e (inl refl)))))
-        (λ e. computes (m .bi w1 (A .reg w3) (A .const w4) ∷ []) (rw e) (rw e) (rw e) (rw e) (rw (e, g .sim .const w4, same w3 (rw e (inl refl))))))
+        (λ e. computes (λ st. st .const w2 ∷ []) (rw (g .sim .const w2)) (rw e) (rw e) (rw e) (rw e) (rw e))
+        (λ e. computes (λ st. m .fused w1 (st .reg w3) (st .reg w4) (st .reg w5) ∷ [])
+        (rw (same w3 (rw e (inl refl)), same w4 (rw e (inr (inl refl))), same w5 (rw e (inr (inr (inl refl)))))) (rw e) (rw e) (rw e) (rw e) (rw e))
+        (λ e. computes (λ st. m .select (st .cell w4 w5) (st .reg w2) (st .reg w3) ∷ [])
+        (rw (same-cell w4 w5 (rw e (inl refl)), same w2 (rw e (inl refl)), same w3 (rw e (inr (inl refl))))) (rw e) (rw e) (rw e) (rw e) (rw e))
+        (λ e. computes (λ st. m .bi w1 (st .reg w3) (st .cell w4 w5) ∷ [])
+        (rw (same-cell w4 w5 (rw e (inl refl)), same w3 (rw e (inl refl)))) (rw e) (rw e) (rw e) (rw e) (rw e))
+        (λ e. computes (λ st. m .bi w1 (st .reg w3) (st .const w4) ∷ []) (rw (g .sim .const w4, same w3 (rw e (inl refl)))) (rw e) (rw e) (rw e) (rw e) (rw e)))
         load-complex-step
         save-complex-step
-        (λ e. computes (m .complexX w1 (A .reg w4) (A .reg w5) (A .reg w6) (A .reg w7) ∷ m .complexY w1 (A .reg w4) (A .reg w5) (A .reg w6) (A .reg w7) ∷ []) (rw e) (rw e) (rw e) (rw e)
-        (rw (e, same w4 (rw e (inl refl)), same w5 (rw e (inr (inl refl))), same w6 (rw e (inr (inr (inl refl)))), same w7 (rw e (inr (inr (inr (inl refl))))))))
+        (λ e. computes (λ st. m .complexX w1 (st .reg w4) (st .reg w5) (st .reg w6) (st .reg w7) ∷ m .complexY w1 (st .reg w4) (st .reg w5) (st .reg w6) (st .reg w7) ∷ [])
+        (rw (same w4 (rw e (inl refl)), same w5 (rw e (inr (inl refl))), same w6 (rw e (inr (inr (inl refl)))), same w7 (rw e (inr (inr (inr (inl refl)))))))
+        (rw e) (rw e) (rw e) (rw e) (rw e))
