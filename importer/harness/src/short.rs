@@ -36,22 +36,28 @@ fn records_of(kind: u32, cells: Cells) -> Vec<Record> {
     records
 }
 
-/// Every record of the kinds over Gen 0 and 1 and the cells.
-pub fn records(kinds: &[u32], cells: Cells) -> Vec<Record> {
-    kinds.iter().flat_map(|kind| records_of(*kind, cells)).collect()
+/// The records that short lists are made of, over Gen 0 and 1 and the cells.
+pub struct Alphabet {
+    pub records: Vec<Record>,
+    cells: Cells,
 }
 
-/// Every list of so many of the records, after the given first ones. Not all of them pass.
-pub fn every_list<'a>(
-    first: &'a [Record],
-    records: &'a [Record],
-    len: u32,
-) -> impl Iterator<Item = List> + 'a {
-    let settings = Settings { count_regs: 2, ..Settings::default() };
-    let mark = settings.fixed_mark();
-    (0..records.len().pow(len)).map(move |code| {
-        let choice = |at| records[code / records.len().pow(at) % records.len()];
-        let words = first.iter().copied().chain((0..len).map(choice)).flatten();
-        List { settings, table: vec![STACK, mark, STACK, mark + 1], words: words.collect() }
-    })
+impl Alphabet {
+    /// Every record of the kinds.
+    pub fn new(kinds: &[u32], cells: Cells) -> Alphabet {
+        let records = kinds.iter().flat_map(|kind| records_of(*kind, cells)).collect();
+        Alphabet { records, cells }
+    }
+
+    /// Every list of so many of the records, after the given first ones, with a table of the first
+    /// two cells. Not all of them pass.
+    pub fn lists<'a>(&'a self, first: &'a [Record], len: u32) -> impl Iterator<Item = List> + 'a {
+        let settings = Settings { count_regs: 2, ..Settings::default() };
+        let Alphabet { records, cells: Cells(cell, _) } = self;
+        (0..records.len().pow(len)).map(move |code| {
+            let choice = |at| records[code / records.len().pow(at) % records.len()];
+            let words = first.iter().copied().chain((0..len).map(choice)).flatten();
+            List { settings, table: vec![STACK, *cell, STACK, cell + 1], words: words.collect() }
+        })
+    }
 }

@@ -7,7 +7,7 @@ use harness::lists::List;
 use harness::questions::refusal;
 use harness::record::Record;
 use harness::settings::Settings;
-use harness::short::{every_list, records, Cells};
+use harness::short::{Alphabet, Cells};
 use rudzaviks::mir::reg;
 use rudzaviks::{reduce, Instruction, Loc, Reg};
 
@@ -123,9 +123,9 @@ fn the_original_ends_otherwise_and_the_port_does_not() {
 /// ends otherwise. The port ends none so.
 fn ended_otherwise(kinds: &[u32], len: u32) -> u64 {
     let (mut lists, mut otherwise) = (0, 0);
-    let records = records(kinds, Cells(15, 3));
+    let alphabet = Alphabet::new(kinds, Cells(15, 3));
     let passes = |list: &List| refusal(&list.settings, &list.words, &list.table, true).is_none();
-    for list in every_list(&[], &records, len).filter(passes) {
+    for list in alphabet.lists(&[], len).filter(passes) {
         let (original, port) = (left_by_original(&list), left_by_port(&list));
         assert_eq!(differences(&list, &port), 0, "{list:?}");
         lists += 1;

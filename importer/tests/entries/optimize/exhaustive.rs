@@ -5,20 +5,20 @@ use harness::kinds::load_const;
 use harness::random::Random;
 use harness::record::Record;
 use harness::roles::KINDS;
-use harness::short::{every_list, records, Cells};
+use harness::short::{Alphabet, Cells};
 use harness::tally::{By, Tally};
 
 /// Every list of so many of the records, after the given first ones.
-fn agree_on_every_list(tally: &mut Tally, first: &[Record], records: &[Record], len: u32) {
+fn agree_on_every_list(tally: &mut Tally, first: &[Record], alphabet: &Alphabet, len: u32) {
     let mut random = Random::new(u64::from(len));
-    every_list(first, records, len)
-        .for_each(|list| tally.add(compared_with_room(&mut random, &list).1));
+    let lists = alphabet.lists(first, len);
+    lists.for_each(|list| tally.add(compared_with_room(&mut random, &list).1));
 }
 
 /// Alone, where a Gen that is read first is refused, and after both registers are written.
-fn alone_and_after(tally: &mut Tally, records: &[Record], len: u32) {
-    agree_on_every_list(tally, &[], records, len);
-    agree_on_every_list(tally, &[load_const(0, 0), load_const(1, 1)], records, len);
+fn alone_and_after(tally: &mut Tally, alphabet: &Alphabet, len: u32) {
+    agree_on_every_list(tally, &[], alphabet, len);
+    agree_on_every_list(tally, &[load_const(0, 0), load_const(1, 1)], alphabet, len);
 }
 
 #[test]
@@ -26,7 +26,7 @@ fn every_list_of_two_records() {
     let kinds: Vec<u32> = (0..KINDS as u32).collect();
     let mut tally = Tally::default();
     for (cell, len) in [(15, 0), (15, 1), (16, 1), (15, 2), (16, 2)] {
-        alone_and_after(&mut tally, &records(&kinds, Cells(cell, 3)), len);
+        alone_and_after(&mut tally, &Alphabet::new(&kinds, Cells(cell, 3)), len);
     }
     tally.print("every list of up to two records");
 }
@@ -35,7 +35,7 @@ fn every_list_of_two_records() {
 fn every_list_of_three_records(cell: u32) {
     let kinds = [0, 1, 2, 3, 4, 5, 6, 7, 8, 9, 10, 11, 12, 14, 15, 16, 17, 18, 19];
     let mut tally = Tally::default();
-    alone_and_after(&mut tally, &records(&kinds, Cells(cell, 2)), 3);
+    alone_and_after(&mut tally, &Alphabet::new(&kinds, Cells(cell, 2)), 3);
     tally.print(&format!("every list of three records, from cell {cell} on"));
 }
 
@@ -54,9 +54,9 @@ fn every_list_of_three_records_from_the_mark_on() {
 fn every_list_of_three_records_with_complex_bi() {
     let mut tally = Tally::default();
     for cell in [15, 16] {
-        let mut chosen = records(&[4, 5, 6, 7, 8, 9, 20], Cells(cell, 3));
-        chosen.retain(|r| r[0] != 20 || r[4..6] == r[6..8]);
-        alone_and_after(&mut tally, &chosen, 3);
+        let mut alphabet = Alphabet::new(&[4, 5, 6, 7, 8, 9, 20], Cells(cell, 3));
+        alphabet.records.retain(|r| r[0] != 20 || r[4..6] == r[6..8]);
+        alone_and_after(&mut tally, &alphabet, 3);
     }
     tally.print("every list of three records with ComplexBi");
 }
@@ -65,7 +65,7 @@ fn every_list_of_three_records_with_complex_bi() {
 #[test]
 fn every_list_of_five_scalar_records() {
     let mut tally = Tally::default();
-    agree_on_every_list(&mut tally, &[], &records(&[4, 5, 6, 9], Cells(16, 2)), 5);
+    agree_on_every_list(&mut tally, &[], &Alphabet::new(&[4, 5, 6, 9], Cells(16, 2)), 5);
     assert!(tally.of(By::Original) > 0 && tally.of(By::Amended) == 0);
 }
 
@@ -73,7 +73,7 @@ fn every_list_of_five_scalar_records() {
 fn every_list_of_loads_and_saves(cell: u32) {
     let mut tally = Tally::default();
     for len in 3..=4 {
-        alone_and_after(&mut tally, &records(&[5, 6, 7, 8, 9], Cells(cell, 3)), len);
+        alone_and_after(&mut tally, &Alphabet::new(&[5, 6, 7, 8, 9], Cells(cell, 3)), len);
     }
     tally.print(&format!("every list of three or four loads and saves, from cell {cell} on"));
 }
