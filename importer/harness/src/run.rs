@@ -144,13 +144,9 @@ impl Both {
         }
     }
 
-    /// What the port is to leave.
+    /// What the port is to leave. Where the copies agree it is the original's too.
     pub fn expected(self) -> Reduced {
-        if self.by() == By::Original {
-            self.original
-        } else {
-            self.amended
-        }
+        self.amended
     }
 }
 

@@ -6,7 +6,8 @@
 //! words and its words; the answer's low and high word. With operation 3 the lent slices follow:
 //! output, colours, ends, set, counts. First come their five lengths in words. Then comes for each
 //! the number of words that it starts with in the end, and these words; all others are FILL, as
-//! they were. Each answer is the questions' or the amended copy's, none is the verified code's.
+//! they were. Each answer is the questions' or the original's, of `optimize` the amended copy's;
+//! none is the verified code's.
 
 use crate::damage::damaged;
 use crate::file::bytes;

@@ -73,7 +73,7 @@ fn members_in<A: Allocator>(list: &List) -> [usize; 2] {
 
 fn members_in_a_copy<A: Allocator>(lists: impl Fn(&mut Random) -> List) {
     let mut random = Random::new(42);
-    let times = how_many(50_000) as usize;
+    let times = how_many(100_000) as usize;
     let mut sums = [0, 0];
     for _ in 0..times {
         let [members, others] = members_in::<A>(&lists(&mut random));

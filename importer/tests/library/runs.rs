@@ -121,7 +121,7 @@ fn difference(before: &Machine, seed: u64, left: &[Instruction], mark: u64) -> O
 #[test]
 fn a_list_and_its_reduced_list_end_equal() {
     let mut random = Random::new(97);
-    let lists = how_many(200_000);
+    let lists = how_many(500_000);
     let mut met = Conditions::default();
     let (mut tally, mut otherwise) = (Tally::default(), 0);
     for seed in 0..lists {

@@ -9,7 +9,8 @@ use harness::record::Record;
 use harness::settings::Settings;
 use harness::short::{Alphabet, Cells};
 use rudzaviks::mir::reg;
-use rudzaviks::{reduce, Instruction, Loc, Reg};
+use rudzaviks::record::Records;
+use rudzaviks::{reduce, text, Instruction, Loc, Reg};
 
 const PRODUCT: &str = "(%$ + %t*im) := (%1 + %2*im) Times (%3 + %4*im)";
 
@@ -117,6 +118,24 @@ fn the_original_ends_otherwise_and_the_port_does_not() {
         assert!(differences(&list, &original) > RUNS / 2, "{list:?}");
         assert_eq!(differences(&list, &port), 0, "{list:?}");
     }
+}
+
+/// The sample that the README shows: the original drops the load of line 14, its only two-part one
+/// that is left.
+#[test]
+fn the_sample_is_ended_otherwise_by_the_original() {
+    let text = include_str!("../../samples/two_part.txt");
+    let parsed = text::parse(text).expect("a list");
+    let Records { list: words, table } = Records::new(&parsed.list);
+    let rudzaviks::Settings { count_regs, args, complex, arm, compress } = parsed.settings;
+    let settings = Settings { count_regs, args, complex, arm, compress };
+    let list = List { settings, table, words };
+    let is_load = |ins: &&Instruction| matches!(ins, Instruction::LoadComplex { .. });
+    let (original, port) = (left_by_original(&list), left_by_port(&list));
+    let loads = [&original, &port].map(|left| left.iter().filter(is_load).count());
+    assert_eq!(loads, [0, 1]);
+    assert!(differences(&list, &original) > RUNS / 2);
+    assert_eq!(differences(&list, &port), 0);
 }
 
 /// How many lists of so many records of the kinds, over three cells around the mark, the original
