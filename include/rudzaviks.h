@@ -14,7 +14,7 @@
  * Stack that a call takes at most, in bytes beyond the caller's frame; not proved, but measured on lists of all kinds, and held
  * by a test:
  *
- *   rudzaviks_used_registers, rudzaviks_populate_labels    1,024
+ *   rudzaviks_survey                                       1,024
  *   rudzaviks_optimize, the list being refused             2,048
  *   rudzaviks_optimize, 4,096 records or 65,536           32,768
  *   rudzaviks_reduce                                      90,112
@@ -30,22 +30,19 @@ extern "C" {
 #endif
 
 /*
- * The Gen registers that a list writes, and those of BranchIf's conditions; all 32 if compress. Answers a mask in bits 0
- * to 31, one bit for each register, and how many there are in bits 56 to 63. Questions 1, 3 and 5 to 7 are put.
+ * Surveys a list in one walk: the Gen registers that it writes, those of BranchIf's conditions among them, or all 32 if compress;
+ * how many they are; and the place of a label. Answers the index of the last Label with this number, or 4,294,967,295 if
+ * there is none. Questions 1, 3 and 5 to 7 are put; the fourth, after the third, asks for at least these words, of which those
+ * that are not written stay as they were:
+ *
+ *   parts     4                             starts with a mask, one bit for each register, in two words, the low one first
+ *                                           and the high one 0; how many registers the mask names; and the answer again
  */
-uint64_t rudzaviks_used_registers(
+uint64_t rudzaviks_survey(
     const uint32_t *list, size_t list_len,
     const uint32_t *table, size_t table_len,
-    uint32_t count_regs, uint32_t compress);
-
-/*
- * The place of a label. Answers the index of the last Label with this number, or 4,294,967,295 if there is none.
- * Questions 1, 3 and 5 to 7 are put.
- */
-uint64_t rudzaviks_populate_labels(
-    const uint32_t *list, size_t list_len,
-    const uint32_t *table, size_t table_len,
-    uint32_t count_regs, uint32_t label);
+    uint32_t count_regs, uint32_t compress, uint32_t label,
+    uint32_t *parts, size_t parts_len);
 
 /*
  * Reduces a list. Answers the number of records that are left. All nine questions are put; the fourth asks for at least

@@ -4,17 +4,15 @@
 //! answers in one 64-bit word. Bits 32 to 55 hold the number of the question that refused the list,
 //! 0 for none; bits 0 to 31 then hold the record's index.
 
-mod beside;
 mod optimize;
 mod reduce;
 mod refusal;
+mod survey;
 
-pub use beside::{
-    populate_labels, populate_labels_word, used_registers, used_registers_word, Place, Used,
-};
 pub use optimize::{optimize, optimize_word, Answer, Buffers, Counts, Lent, Settings};
 pub use reduce::{reduce, reduce_word};
 pub use refusal::Refusal;
+pub use survey::{survey, survey_word, Place, Survey, PARTS};
 
 fn low(word: u64) -> u32 {
     word as u32

@@ -28,6 +28,8 @@
 //! # Ok::<(), rudzaviks::Refusal>(())
 //! ```
 //!
+//! [`survey()`] tells which registers a list uses, and where its labels are.
+//!
 //! Lists can be written and read as [`text`], and as a [`mod@file`] of words; the command-line tool
 //! `rudzaviks` does both, and shows what became of each line.
 
@@ -42,8 +44,10 @@ pub mod text;
 mod instruction;
 mod outcome;
 mod reduced;
+mod survey;
 
 pub use ffi::{Counts, Refusal, Settings};
 pub use instruction::{ArithOp, BinOp, FusedOp, Instruction, Loc, Reg, UniOp};
 pub use outcome::{Held, Outcome, Reason};
 pub use reduced::{reduce, Reduced};
+pub use survey::{survey, Label, Place, Survey};

@@ -13,12 +13,10 @@ use harness::file::{encode, room};
 use harness::lists::{list, List, Profile};
 use harness::random::Random;
 use harness::settings::Settings;
-use rudzaviks::ffi::{
-    optimize_word, populate_labels_word, reduce_word, used_registers_word, Buffers,
-};
+use rudzaviks::ffi::{optimize_word, reduce_word, survey_word, Buffers, PARTS};
 
 /// What the documents state, in bytes.
-const BESIDE: usize = 1_024;
+const SURVEY: usize = 1_024;
 const REFUSED: usize = 2_048;
 const REDUCED: usize = 32_768;
 const FILE: usize = 90_112;
@@ -149,16 +147,26 @@ fn a_file() {
     }
 }
 
-#[test]
-fn beside_the_passes() {
-    let List { words, table, .. } = passing(65_536);
+/// What `survey` answers with this many words for its parts; called on a stack as `takes` has it.
+fn survey(what: &str, list: &List, parts_len: usize) -> u64 {
+    let mut parts = vec![0; parts_len];
     let mut word = 0;
-    let used = &mut || word = used_registers_word(&words, &table, 32, 0);
-    takes("used_registers", 0, BESIDE, used);
-    assert_eq!((word >> 32) & 0xff_ffff, 0);
-    let labels = &mut || word = populate_labels_word(&words, &table, 32, 0);
-    takes("populate_labels", 0, BESIDE, labels);
-    assert_eq!((word >> 32) & 0xff_ffff, 0);
+    let mut call = || word = survey_word(&list.words, &list.table, 32, 0, 0, &mut parts);
+    takes(what, 0, SURVEY, &mut call);
+    word
+}
+
+/// A list that passes, and lists that are refused at once and at the very end.
+#[test]
+fn a_survey_takes_little() {
+    let mut list = passing(65_536);
+    assert_eq!(survey("survey", &list, PARTS) >> 32, 0);
+    assert_eq!(survey("survey, refused by 4", &list, PARTS - 1), 4 << 32);
+    list.record_mut(65_535).copy_from_slice(&[4, 260, 0, 0, 0, 0, 0, 0]);
+    assert_eq!(survey("survey, refused by 6", &list, PARTS), (6 << 32) | 65_535);
+    for records in [0, 1, 64] {
+        assert_eq!(survey("survey of a shorter list", &passing(records), PARTS) >> 32, 0);
+    }
 }
 
 /// With thousands apart, as the documents write it.
@@ -171,7 +179,7 @@ fn the_documents_state_these_numbers() {
     for document in ["include/rudzaviks.h", "docs/FORMAT.md", "docs/GUARANTEES.md"] {
         let path = format!("{}/../{document}", env!("CARGO_MANIFEST_DIR"));
         let text = fs::read_to_string(path).expect("the document is there");
-        for number in [BESIDE, REFUSED, REDUCED, FILE] {
+        for number in [SURVEY, REFUSED, REDUCED, FILE] {
             assert!(text.contains(&written(number)), "{document} does not state {number} bytes");
         }
     }

@@ -15,6 +15,8 @@ const TWO_PART: &str = concat!(env!("CARGO_MANIFEST_DIR"), "/samples/two_part.tx
 /// A list that is reduced as the original does it, and then computes something else.
 const NOT_PROMISED: &str = concat!(env!("CARGO_MANIFEST_DIR"), "/samples/branch.txt");
 
+const COMMANDS: [&str; 5] = ["reduce", "check", "survey", "assemble", "disassemble"];
+
 /// What a run of the tool gave.
 struct RunOutput {
     status: i32,
@@ -176,7 +178,7 @@ fn long_instructions_are_broken() {
 fn a_mistake_is_shown_with_its_line_and_column() {
     let list = "settings count_regs=2\n%0 := Mem[0]\n  %1 := %0 Pluss %0 # sum\n";
     let shown = "    3 |   %1 := %0 Pluss %0 # sum\n      |            ^\n";
-    for command in ["reduce", "check", "assemble", "disassemble"] {
+    for command in COMMANDS {
         let output = run_on(command, list);
         output.fails(2, &["standard input:3:12: expected one of Plus, ", "found `Pluss`\n", shown]);
     }
@@ -190,7 +192,7 @@ fn a_mistake_is_shown_with_its_line_and_column() {
 fn a_refusal_is_explained_with_the_line() {
     let seven = "settings count_regs=2\n%0 := Mem[0]\n\n%1 := %0 Plus %2\n";
     let nine = "settings count_regs=2\n%0 := Mem[0]\n7:\nMem[1] := %0  # the sum\n";
-    for command in ["reduce", "check"] {
+    for command in ["reduce", "check", "survey"] {
         run_on(command, seven).fails(
             1,
             &[
@@ -199,6 +201,8 @@ fn a_refusal_is_explained_with_the_line() {
                 "count_regs is 2: the general registers are %0 to %1",
             ],
         );
+    }
+    for command in ["reduce", "check"] {
         run_on(command, nine).fails(
             1,
             &[
@@ -230,7 +234,7 @@ fn refusals_of_every_other_question_are_explained() {
         file[at..at + 4].copy_from_slice(&value.to_le_bytes());
         file
     };
-    for command in ["reduce", "check", "disassemble"] {
+    for command in ["reduce", "check", "survey", "disassemble"] {
         let kind =
             ["refused by question 5 at record 0", "    0 | 21 0 1 0 0 0 0 0", "word 0 is 21"];
         run(&[command, "-"], &damaged(0, 21)).fails(1, &kind);
@@ -238,6 +242,124 @@ fn refusals_of_every_other_question_are_explained() {
         run(&[command, "-"], &damaged(2, 3)).fails(1, &field);
         let short = ["refused by question 3", "this one has 59 bytes"];
         run(&[command, "-"], &file[..59]).fails(1, &short);
+    }
+}
+
+/// Two labels with one number, one that is absent, and a call, whose number is no label.
+const LABELS: &str = "\
+settings count_regs=4 args=0
+
+%0 := Mem[0]
+if %0 goto 12
+(%1 + %3*im) := Mem[2]
+9:
+7:        # once
+(%2 + %t*im) := Mem[4]
+goto 12
+9:
+call 5; n = 1
+";
+
+#[test]
+fn a_list_is_surveyed() {
+    let shown = run_on("survey", LABELS).succeeds();
+    let expected = "\
+settings count_regs=4 args=0
+
+3 of 4 registers used: %0 %1 %3
+label 7: line 7
+label 9: line 10, the last of 2
+label 12: absent, though line 4 jumps to it
+";
+    assert_eq!(shown.out(), expected);
+    let sample = run(&["survey", NOT_PROMISED], b"").succeeds();
+    let expected = "\
+settings count_regs=2 args=0
+
+2 of 2 registers used: %0 %1
+label 7: line 8
+";
+    assert_eq!(sample.out(), expected);
+}
+
+#[test]
+fn a_file_is_surveyed_by_the_numbers_of_its_records() {
+    let file = run_on("assemble", LABELS).succeeds().out;
+    let shown = run(&["survey", "-"], &file).succeeds();
+    let expected = "\
+settings count_regs=4 args=0
+
+3 of 4 registers used: %0 %1 %3
+label 7: record 4
+label 9: record 7, the last of 2
+label 12: absent, though record 1 jumps to it
+";
+    assert_eq!(shown.out(), expected);
+}
+
+#[test]
+fn a_survey_says_what_there_is_not() {
+    for list in ["settings count_regs=4\n", "settings count_regs=4\n%t := Mem[0]\nend\n"] {
+        let shown = run_on("survey", list).succeeds();
+        let expected = "settings count_regs=4 args=0\n\nno registers used\nno labels\n";
+        assert_eq!(shown.out(), expected);
+    }
+    let labels = run_on("survey", "settings count_regs=0\n4294967295:\ngoto 0\n").succeeds();
+    let expected = "\
+settings count_regs=0 args=0
+
+no registers used
+label 0: absent, though line 3 jumps to it
+label 4294967295: line 2
+";
+    assert_eq!(labels.out(), expected);
+}
+
+#[test]
+fn every_register_may_be_used() {
+    let writes = (0..32).map(|number| format!("%{number} := Mem[0]\n")).collect::<String>();
+    let list = format!("settings count_regs=32\n{writes}");
+    let shown = run_on("survey", &list).succeeds();
+    lines_fit(shown.out());
+    let names = (0..32).map(|number| format!("%{number}")).collect::<Vec<_>>().join(" ");
+    let in_one_line = shown.out().replace("\n  ", " ");
+    assert!(in_one_line.contains(&format!("\n32 of 32 registers used: {names}\nno labels\n")));
+    let compressed = run_on("survey", "settings count_regs=1 compress\n%0 := Mem[0]\n").succeeds();
+    let expected = "\
+settings count_regs=1 args=0 compress
+
+all 32 registers used, since compress is set
+no labels
+";
+    assert_eq!(compressed.out(), expected);
+}
+
+/// `check` refuses these by the questions that `survey` does not put.
+#[test]
+fn a_list_that_may_not_be_reduced_is_surveyed() {
+    for (question, list) in [
+        (2, "settings count_regs=1 args=65536\n%0 := Mem[0]\n"),
+        (8, "settings count_regs=1\n(%0 + %0*im) := Mem[4294967295]\n"),
+        (9, "settings count_regs=1\nMem[1] := %0\n%0 := Mem[0]\n"),
+    ] {
+        run_on("check", list).fails(1, &[&format!("refused by question {question}")]);
+        let shown = run_on("survey", list).succeeds();
+        assert!(shown.out().ends_with("\n\n1 of 1 register used: %0\nno labels\n"), "{list}");
+    }
+}
+
+#[test]
+fn a_survey_explains_a_refusal_as_check_does() {
+    let long = format!("settings count_regs=1\n{}", "7:\n".repeat(65_537));
+    for list in [
+        "settings count_regs=33\n7:\n",
+        &long,
+        "settings count_regs=2\n7:\n%0 := Mem[0]\nif not %2 goto 7\n",
+        "settings count_regs=0 compress\n%0 := Mem[0]\n",
+    ] {
+        let [survey, check] = ["survey", "check"].map(|command| run_on(command, list));
+        survey.fails(1, &["refused by question"]);
+        assert_eq!(survey.err, check.err);
     }
 }
 
@@ -256,7 +378,7 @@ fn help_is_given() {
     for words in [&["help"][..], &["-h"]] {
         assert_eq!(run(words, b"").succeeds().out(), general.out());
     }
-    for command in ["reduce", "check", "assemble", "disassemble"] {
+    for command in COMMANDS {
         assert!(general.out().contains(&format!("\n  {command} ")), "{command}");
         let help = run(&[command, "--help"], b"").succeeds();
         assert!(help.out().starts_with(&format!("usage: rudzaviks {command} ")));

@@ -3,7 +3,9 @@ pub mod Clash
 pub mod Folds
 pub mod Limits
 pub mod Masks
+pub mod Pair
 pub mod Passing
 pub mod Records
 pub mod Renaming
 pub mod Shapes
+pub mod Surveys

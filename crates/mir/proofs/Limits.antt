@@ -11,7 +11,7 @@ use Rattle.mir.specs.declared.config.Settings.{Settings}
 use Rattle.mir.specs.declared.questions.Verdict.{Verdict}
 use Rattle.mir.specs.declared.questions.Verdict.the-variants.{Passed, Refused}
 use Rattle.mir.specs.Folds.{allBelow, all, firstRefusal}
-use Rattle.mir.specs.Questions.{refusal, refusalBeside, recordRefusal, shapeRefusal, recordNo, shapeNo, fewRegisters, fewArgs, wellSized}
+use Rattle.mir.specs.Questions.{refusal, refusalBeside, sizesRefusal, recordRefusal, shapeRefusal, recordNo, shapeNo, fewRegisters, fewArgs, wellSized}
 use Rattle.mir.specs.Questions.{knownKind, fieldsFit, wordsFit, pairsFit, gensFit, partnerFits, sourcesNamed}
 use Rattle.mir.specs.Records.{recordAt}
 use Rattle.mir.specs.Renaming.{gens, produced, renamed, staticsTo, regsTo}
@@ -111,7 +111,7 @@ abbrev pub second : List ℕ → Verdict
 second rec = refusal true (settings 5 0) (three rec) []
 
 abbrev pub beside : List ℕ → Verdict
-beside rec = refusalBeside 5 (three rec) []
+beside rec = refusalBeside true 5 (three rec) []
 
 -- a record of no kind and a word more
 abbrev pub ragged : List ℕ
@@ -170,10 +170,12 @@ pub record ListLimits : Type 0 where
   pub eight : second (row 8 3 3 0 4294967295 0 0 0) ≡ Refused 8 1
   pub nine : second (row 8 3 3 0 4294967294 0 0 0) ≡ Refused 9 1
   pub later : second (row 8 259 259 0 4294967294 0 0 0) ≡ Refused 5 2
-  -- beside the passes: 1, 3 and 5 to 7 alone
-  pub one-beside : refusalBeside 33 ragged [] ≡ Refused 1 0
-  pub three-beside : refusalBeside 32 ragged [] ≡ Refused 3 0
-  pub three-table-beside : refusalBeside 32 (row 21 0 0 0 0 0 0 0) (0 ∷ []) ≡ Refused 3 0
+  -- of a survey: 1, 3, 4 and 5 to 7 alone
+  pub one-beside : refusalBeside false 33 ragged [] ≡ Refused 1 0
+  pub three-beside : refusalBeside false 32 ragged [] ≡ Refused 3 0
+  pub three-table-beside : refusalBeside false 32 (row 21 0 0 0 0 0 0 0) (0 ∷ []) ≡ Refused 3 0
+  pub four-beside : refusalBeside false 32 (row 21 0 0 0 0 0 0 0) [] ≡ Refused 4 0
+  pub passing-beside : refusalBeside true 32 [] [] ≡ Passed
   pub five-beside : beside (row 21 1 1 1 1 1 1 1) ≡ Refused 5 1
   pub six-beside : beside (row 8 5 3 0 4294967295 1 0 0) ≡ Refused 6 1
   pub seven-beside : beside (row 8 5 3 0 4294967295 0 0 0) ≡ Refused 7 1
@@ -194,7 +196,7 @@ module _ (list table : List ℕ) where
   longer-table h = rw (h, and-false)
 
 pub limit-cases : WordLimits × RegisterLimits × ListLimits
-unfolding of oneMore asGens refusal refusalBeside recordRefusal shapeRefusal recordNo shapeNo fewRegisters fewArgs wellSized
+unfolding of oneMore asGens refusal refusalBeside sizesRefusal recordRefusal shapeRefusal recordNo shapeNo fewRegisters fewArgs wellSized
     knownKind fieldsFit wordsFit pairsFit gensFit partnerFits sourcesNamed allBelow all firstRefusal recordAt gens produced renamed
     staticsTo regsTo shapeOf dests sources registers
 limit-cases = (
@@ -243,6 +245,8 @@ limit-cases = (
     one-beside = refl;
     three-beside = refl;
     three-table-beside = refl;
+    four-beside = refl;
+    passing-beside = refl;
     five-beside = refl;
     six-beside = refl;
     seven-beside = refl;

@@ -14,7 +14,7 @@ use Rattle.mir.specs.declared.questions.Verdict.the-variants.{Passed, Re
 use Rattle.mir.specs.declared.rename.Current.{Current}
 use Rattle.mir.specs.Folds.{all, firstNo, refusedAt, firstRefusal}
 use Rattle.mir.specs.Questions.{fewRegisters, fewArgs, wellSized, knownKind, fieldsFit, genFits, gensFit, partnerFits, sourcesNamed}
-use Rattle.mir.specs.Questions.{shapeNo, recordNo, shapeBy, recordBy, shapeRefusal, recordRefusal, refusalBeside, refusal}
+use Rattle.mir.specs.Questions.{shapeNo, recordNo, recordBy, recordRefusal, sizesRefusal, refusal}
 use Rattle.mir.specs.Records.{isGen, maxRegs, records, recordAt}
 use Rattle.mir.specs.Renaming.{regsTo}
 use Rattle.mir.specs.Shapes.{registers}
@@ -140,25 +140,18 @@ well-sized list table h =
 
 -- ---- a whole list
 
-module _ (countRegs : ℕ) (list table : List ℕ) where
-  abbrev besideAsked : List (ℕ × Bool)
-  besideAsked = (1, fewRegisters countRegs) ∷ (3, wellSized (length list) (length table)) ∷ []
+-- questions 1, 3 and 4 of a list that is surveyed; `list` and `table` are lengths
+pub record SizesPass (room : Bool) (countRegs list table : ℕ) : Type 0 where
+  pub few : countRegs ≤ maxRegs
+  pub sized : wellSized list table ≡ true
+  pub roomy : room ≡ true
 
-  pub record BesidePasses : Type 0 where
-    pub few : countRegs ≤ maxRegs
-    pub sized : Sized (length list) (length table)
-    pub each : (i : ℕ) → i < records list → ShapePasses table countRegs (recordAt list i)
-
-  pub beside-passes : {v : Verdict} → v ≡ refusalBeside countRegs list table → v ≡ Passed → BesidePasses
-  unfolding refusalBeside shapeRefusal fewRegisters
-  beside-passes h e =
-      let p = both-passed (refusedAt (firstNo besideAsked) 0) (firstRefusal (shapeBy table countRegs list) (records list)) (sym h ∙ e) in
-      let y = each-yes besideAsked tt (none-refused _ 0 (p .0)) in
-      record {
-        few = leb-true countRegs maxRegs (y .0);
-        sized = well-sized (length list) (length table) (y .1 .0);
-        each = λ i l. shape-passes table countRegs (recordAt list i) (refusal-none (shapeBy table countRegs list) (records list) i (p .1) l);
-      }
+pub sizes-pass : (room : Bool) (countRegs list table : ℕ) → sizesRefusal room countRegs list table ≡ Passed → SizesPass room countRegs list table
+unfolding sizesRefusal fewRegisters
+sizes-pass room countRegs list table h =
+    let asked : List (ℕ × Bool) = (1, fewRegisters countRegs) ∷ (3, wellSized list table) ∷ (4, room) ∷ [] in
+    let y = each-yes asked tt (none-refused _ 0 h) in
+    record { few = leb-true countRegs maxRegs (y .0); sized = y .1 .0; roomy = y .1 .1 .0 }
 
 pub record ListPasses (s : Settings) (list table : List ℕ) : Type 0 where
   pub few : s .«count_regs» ≤ maxRegs

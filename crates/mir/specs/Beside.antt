@@ -1,14 +1,14 @@
--- Public, document 01, section 6: the used registers, and the place of a label.
+-- Public, document 01, section 6, and document 02, request 13: the used registers and the place of a label, in one survey.
 use Prim.Native.Nat.{ℕ, zero, suc, _^_}
-use mathlib.Core.Bool.{Bool, cond, _&&_}
+use mathlib.Core.Bool.{Bool, true, cond, _&&_}
 use mathlib.Core.List.{List, [], _∷_}
 use lib.Bits.{bitOr}
 use lib.Count.{onesIn}
 use lib.Dec.{eqb}
-use Rattle.mir.specs.declared.Used.{Used}
-use Rattle.mir.specs.declared.Used.the-variants as used
+use Rattle.mir.specs.declared.Surveyed.{Surveyed}
+use Rattle.mir.specs.declared.Surveyed.the-variants.{Registers, Refused}
 use Rattle.mir.specs.declared.Place.{Place}
-use Rattle.mir.specs.declared.Place.the-variants as place
+use Rattle.mir.specs.declared.Place.the-variants.{At, Absent}
 use Rattle.mir.specs.Answers.{Report, answered, refused, unless}
 use Rattle.mir.specs.Folds.{all}
 use Rattle.mir.specs.Questions.{refusalBeside}
@@ -38,16 +38,6 @@ maskTo list (suc i) = bitOr (maskTo list i) (getDst (recordAt list i))
 unfoldable pub usedMask : Bool → List ℕ → ℕ
 usedMask compress list = cond compress any (maskTo list (records list))
 
--- the mask, and how many registers it names: its ones
-unfoldable pub usedRegisters : ℕ → Bool → List ℕ → List ℕ → Report
-usedRegisters countRegs compress list table =
-    let mask = usedMask compress list in
-    unless (refusalBeside countRegs list table) (mask ∷ onesIn 32 mask ∷ [])
-
-abbrev pub usedReport : Used → Report
-usedReport (used.Registers mask count) = answered (mask ∷ count ∷ [])
-usedReport (used.Refused number index) = refused number index
-
 -- a record is a Label with the given number
 unfoldable pub isLabel : ℕ → List ℕ → Bool
 isLabel name rec = eqb (wordAt rec 0) label && eqb (wordAt rec 1) name
@@ -60,12 +50,21 @@ unfoldable pub lastBelow : (ℕ → Bool) → ℕ → List ℕ
 lastBelow p zero = []
 lastBelow p (suc n) = cond (p n) (n ∷ []) (lastBelow p n)
 
--- the index of the last Label with the number, or no value where it is absent
-unfoldable pub populateLabels : ℕ → ℕ → List ℕ → List ℕ → Report
-populateLabels countRegs name list table =
-    unless (refusalBeside countRegs list table) (lastBelow (labelAt list name) (records list))
+-- the parts of the answer: the mask, how many registers it names, its ones, and the index of the last Label with the number,
+-- or no value where it is absent
+unfoldable pub parts : Bool → ℕ → List ℕ → List ℕ
+parts compress name list =
+    let mask = usedMask compress list in
+    mask ∷ onesIn 32 mask ∷ lastBelow (labelAt list name) (records list)
 
-abbrev pub placeReport : Place → Report
-placeReport (place.At index) = answered (index ∷ [])
-placeReport place.Absent = answered []
-placeReport (place.Refused number index) = refused number index
+unfoldable pub surveyOf : ℕ → Bool → ℕ → List ℕ → List ℕ → Report
+surveyOf countRegs compress name list table = unless (refusalBeside true countRegs list table) (parts compress name list)
+
+-- what the code's answer says
+abbrev pub placeIn : Place → List ℕ
+placeIn (At index) = index ∷ []
+placeIn Absent = []
+
+abbrev pub surveyReport : Surveyed → Report
+surveyReport (Registers mask count place) = answered (mask ∷ count ∷ placeIn place)
+surveyReport (Refused number index) = refused number index

@@ -113,9 +113,12 @@ refusal room s list table =
     0)
     (recordRefusal table (s .«count_regs») list)
 
--- section 6: the two operations beside the passes put questions 1, 3 and 5 to 7 only
-unfoldable pub refusalBeside : ℕ → List ℕ → List ℕ → Verdict
-refusalBeside countRegs list table =
-    orElse
-    (refusedAt (firstNo ((1, fewRegisters countRegs) ∷ (3, wellSized (length list) (length table)) ∷ [])) 0)
-    (shapeRefusal table countRegs list)
+-- section 6, as request 13 amends it: the survey of a list puts questions 1, 3 and 5 to 7 only, and where the answer is
+-- written into a lent slice, question 4 after 3
+unfoldable pub sizesRefusal : Bool → ℕ → ℕ → ℕ → Verdict
+sizesRefusal room countRegs list table =
+    refusedAt (firstNo ((1, fewRegisters countRegs) ∷ (3, wellSized list table) ∷ (4, room) ∷ [])) 0
+
+unfoldable pub refusalBeside : Bool → ℕ → List ℕ → List ℕ → Verdict
+refusalBeside room countRegs list table =
+    orElse (sizesRefusal room countRegs (length list) (length table)) (shapeRefusal table countRegs list)

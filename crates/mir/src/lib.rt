@@ -7,32 +7,33 @@ pub mod shape;
 
 use crate::config::Settings;
 use crate::questions::Verdict;
-use crate::questions::check_beside;
+use crate::questions::check_shape;
+use crate::questions::check_sizes;
 use crate::record::record_at;
 use crate::shape::BRANCH_IF;
 use crate::shape::Dests;
 use crate::shape::LABEL;
 use crate::shape::dests_of;
-ghost use Prim.Native.Nat.{ℕ, _≤_, _<_};
+ghost use Prim.Native.Nat.{_≤_, _<_};
 ghost use mathlib.Core.Bool.{true, cond};
 ghost use mathlib.Core.List.{[], _∷_};
 ghost use mathlib.Core.Path.{_≡_};
 ghost use lib.ListN.{length};
-ghost use Rattle.mir.specs.Answers.{answered};
-ghost use Rattle.mir.specs.Beside.{maskOf, getDst, usedMask, usedRegisters, usedReport, isLabel, labelAt, lastBelow, populateLabels, placeReport};
-ghost use Rattle.mir.specs.Questions.{gensFit};
-ghost use Rattle.mir.specs.Records.{maxRegs, records, recordAt};
+ghost use Rattle.mir.specs.Answers.{unless};
+ghost use Rattle.mir.specs.Beside.{maskOf, getDst, isLabel, placeIn, parts, surveyOf, surveyReport};
+ghost use Rattle.mir.specs.Questions.{gensFit, wellSized, shapeRefusal};
+ghost use Rattle.mir.specs.Records.{maxRegs};
+ghost use Rattle.mir.specs.Shapes.{any};
 
-// The answer of `used_registers`: the mask and how many registers it names, or a refusal's number and index.
-pub enum Used {
-    Registers(u32, u32),
-    Refused(u32, u32),
-}
-
-// The answer of `populate_labels`: the label's index, that it is absent, or a refusal's number and index.
+// Where a list has a label: the index of the last Label with its number, or nowhere.
 pub enum Place {
     At(u32),
     Absent,
+}
+
+// The answer of `survey`: the mask of used registers, how many it names, and the label's place; or a refusal's number and index.
+pub enum Surveyed {
+    Registers(u32, u32, Place),
     Refused(u32, u32),
 }
 
@@ -75,49 +76,6 @@ fn get_dst(rec: [u32; 8]) -> u32
     }
 }
 
-// The mask of the registers that a list counts; every register if `compress` is set.
-fn used_mask(list: &[u32], compress: bool) -> u32
-    requires { ⌜ ((i : ℕ) → i < records (now list) → gensFit maxRegs (recordAt (now list) i) ≡ true) ⌝ }
-    ensures { λ r. ⌜ r ≡ usedMask compress (now (list .entry)) ⌝ }
-{
-    if compress {
-        return 4_294_967_295;
-    }
-    let n = list.len() / 8;
-    let mut mask = 0;
-    let mut i = 0;
-    while i < n {
-        mask |= get_dst(record_at(list, i));
-        i += 1;
-    }
-    mask
-}
-
-// The registers that the list uses, and how many they are.
-pub fn used_registers(list: &[u32], table: &[u32], settings: Settings) -> Used
-    ensures { λ r. ⌜ usedReport r ≡ usedRegisters (settings .«count_regs») (settings .compress) (now (list .entry)) (now (table .entry)) ⌝ }
-{
-    let verdict = check_beside(list, table, settings.count_regs);
-    match verdict {
-        Verdict::Refused(number, index) => Used::Refused(number, index),
-        Verdict::Passed => {
-            let mask = used_mask(list, settings.compress);
-            Used::Registers(mask, u32::count_ones(mask))
-        }
-    }
-}
-
-// The index of the last Label with the number `label`, if the list has one.
-pub fn populate_labels(list: &[u32], table: &[u32], settings: Settings, label: u32) -> Place
-    ensures { λ r. ⌜ placeReport r ≡ populateLabels (settings .«count_regs») label (now (list .entry)) (now (table .entry)) ⌝ }
-{
-    let verdict = check_beside(list, table, settings.count_regs);
-    match verdict {
-        Verdict::Refused(number, index) => Place::Refused(number, index),
-        Verdict::Passed => last_label(list, label),
-    }
-}
-
 // Whether a record is the Label with the number `label`.
 fn is_label(rec: [u32; 8], label: u32) -> bool
     ensures { λ r. ⌜ r ≡ isLabel label rec ⌝ }
@@ -131,7 +89,7 @@ fn is_label(rec: [u32; 8], label: u32) -> bool
 
 // The place found so far, once record `i` has been looked at.
 fn later_label(found: Place, rec: [u32; 8], i: u32, label: u32) -> Place
-    ensures { λ r. ⌜ placeReport r ≡ cond (isLabel label rec) (answered (i ∷ [])) (placeReport found) ⌝ }
+    ensures { λ r. ⌜ placeIn r ≡ cond (isLabel label rec) (i ∷ []) (placeIn found) ⌝ }
 {
     if is_label(rec, label) {
         Place::At(i)
@@ -140,17 +98,44 @@ fn later_label(found: Place, rec: [u32; 8], i: u32, label: u32) -> Place
     }
 }
 
-fn last_label(list: &[u32], label: u32) -> Place
-    requires { ⌜ length (now list) ≤ 524288 ⌝ }
-    ensures { λ r. ⌜ placeReport r ≡ answered (lastBelow (labelAt (now (list .entry)) label) (records (now (list .entry)))) ⌝ }
+// The mask of a list, by the mask of its records: every register if `compress` is set.
+fn used_mask(mask: u32, compress: bool) -> u32
+    ensures { λ r. ⌜ r ≡ cond compress any mask ⌝ }
+{
+    if compress { 4_294_967_295 } else { mask }
+}
+
+// The one walk: each record is asked questions 5 to 7 before its registers are counted and its label is looked at.
+fn survey_records(list: &[u32], table: &[u32], settings: Settings, label: u32) -> Surveyed
+    requires { ⌜ settings .«count_regs» ≤ maxRegs ⌝ }
+    requires { ⌜ wellSized (length (now list)) (length (now table)) ≡ true ⌝ }
+    ensures { λ r. ⌜ surveyReport r ≡ unless (shapeRefusal (now (table .entry)) (settings .«count_regs») (now (list .entry))) (parts (settings .compress) label (now (list .entry))) ⌝ }
 {
     let n = list.len() / 8;
-    let mut found = Place::Absent;
+    let mut mask = 0;
+    let mut place = Place::Absent;
     let mut i = 0;
     while i < n {
-        let next = later_label(found, record_at(list, i), i as u32, label);
-        found = next;
+        let rec = record_at(list, i);
+        let by = check_shape(rec, table, settings.count_regs);
+        if by != 0 {
+            return Surveyed::Refused(by, i as u32);
+        }
+        mask |= get_dst(rec);
+        let later = later_label(place, rec, i as u32, label);
+        place = later;
         i += 1;
     }
-    found
+    let used = used_mask(mask, settings.compress);
+    Surveyed::Registers(used, u32::count_ones(used), place)
+}
+
+// The registers that a list uses, how many they are, and the place of the last Label with the number `label`.
+pub fn survey(list: &[u32], table: &[u32], settings: Settings, label: u32) -> Surveyed
+    ensures { λ r. ⌜ surveyReport r ≡ surveyOf (settings .«count_regs») (settings .compress) label (now (list .entry)) (now (table .entry)) ⌝ }
+{
+    match check_sizes(list.len(), table.len(), settings.count_regs, true) {
+        Verdict::Refused(number, index) => Surveyed::Refused(number, index),
+        Verdict::Passed => survey_records(list, table, settings, label),
+    }
 }

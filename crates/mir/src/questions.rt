@@ -12,7 +12,7 @@ ghost use mathlib.Core.Bool.{cond, true};
 ghost use mathlib.Core.Path.{_≡_};
 ghost use lib.ListN.{length, take, drop};
 ghost use Rattle.mir.specs.Folds.{all};
-ghost use Rattle.mir.specs.Questions.{wellSized, wordsFit, pairsFit, fieldsFit, genFits, gensFit, partnerFits, named, sourcesNamed, shapeNo, shapeRefusal, recordNo, recordRefusal, refusal, refusalBeside};
+ghost use Rattle.mir.specs.Questions.{wellSized, wordsFit, pairsFit, fieldsFit, genFits, gensFit, partnerFits, named, sourcesNamed, shapeNo, recordNo, recordRefusal, sizesRefusal, refusal};
 ghost use Rattle.mir.specs.Records.{maxRegs};
 
 // Whether a list passes; a refusal has the question's number and the index of the first bad record.
@@ -129,7 +129,7 @@ fn partner_fits(rec: [u32; 8]) -> bool
 }
 
 // What a record is refused by, or 0: questions 5 to 7.
-fn check_shape(rec: [u32; 8], table: &[u32], count_regs: u32) -> u32
+pub fn check_shape(rec: [u32; 8], table: &[u32], count_regs: u32) -> u32
     ensures { λ r. ⌜ r ≡ shapeNo (now (table .entry)) «count_regs» rec ⌝ }
 {
     if 20 < rec[0] {
@@ -203,32 +203,18 @@ fn check_record(rec: [u32; 8], table: &[u32], count_regs: u32, regs: [Current; 3
     check_sources(regs, rec)
 }
 
-// Questions 1, 3 and 5 to 7, for what stands beside the passes.
-pub fn check_beside(list: &[u32], table: &[u32], count_regs: u32) -> Verdict
-    ensures { λ r. ⌜ r ≡ refusalBeside «count_regs» (now (list .entry)) (now (table .entry)) ⌝ }
+// Questions 1, 3 and 4, which come before any record of a list that is surveyed; `room` is the answer to question 4.
+pub fn check_sizes(list: usize, table: usize, count_regs: u32, room: bool) -> Verdict
+    ensures { λ r. ⌜ r ≡ sizesRefusal room «count_regs» list table ⌝ }
 {
     if 32 < count_regs {
         return Verdict::Refused(1, 0);
     }
-    if !well_sized(list.len(), table.len()) {
+    if !well_sized(list, table) {
         return Verdict::Refused(3, 0);
     }
-    check_shapes(list, table, count_regs)
-}
-
-// Questions 5 to 7, record by record.
-fn check_shapes(list: &[u32], table: &[u32], count_regs: u32) -> Verdict
-    requires { ⌜ wellSized (length (now list)) (length (now table)) ≡ true ⌝ }
-    ensures { λ r. ⌜ r ≡ shapeRefusal (now (table .entry)) «count_regs» (now (list .entry)) ⌝ }
-{
-    let n = list.len() / 8;
-    let mut i = 0;
-    while i < n {
-        let by = check_shape(record_at(list, i), table, count_regs);
-        if by != 0 {
-            return Verdict::Refused(by, i as u32);
-        }
-        i += 1;
+    if !room {
+        return Verdict::Refused(4, 0);
     }
     Verdict::Passed
 }

@@ -8,10 +8,11 @@ use mathlib.Core.Path.{_≡_, refl}
 use lib.ListN.{length, replicate}
 use Rattle.mir.specs.declared.questions.Verdict.the-variants.{Passed, Refused}
 use Rattle.mir.specs.Folds.{firstRefusal}
-use Rattle.mir.specs.Questions.{refusal, recordRefusal, fewRegisters, fewArgs, wellSized}
+use Rattle.mir.specs.Questions.{refusal, recordRefusal, fewRegisters, fewArgs, wellSized, knownKind, shapeNo, shapeRefusal, sizesRefusal, refusalBeside}
+use Rattle.mir.specs.Records.{recordAt}
 use Rattle.walks.specs.Lent.{lent}
 use Rattle.allocator.specs.Optimize.{roomFor, roomIn}
-use Rattle.rudzaviks.specs.Exports.{flag, settingsOf, refusalWord, usedWord, placeWord, recordsWord, verdictWith}
+use Rattle.rudzaviks.specs.Exports.{flag, settingsOf, refusalWord, placeWord, partsWords, surveyVerdict, recordsWord, verdictWith}
 use Rattle.rudzaviks.specs.File.{wordIn, wordsIn, bytesOf, settingsIn, pairCount, tableIn, recordCount, listIn, wellFormed}
 use Rattle.rudzaviks.specs.File.{fileVerdict, bytesVerdict, wordsVerdict}
 
@@ -23,9 +24,16 @@ pub record ExportCases : Type 0 where
   pub unset : flag 0 ≡ false
   pub set : flag 4294967295 ≡ true
   pub refused : refusalWord 9 65535 ≡ 38654771199
-  pub used : usedWord (4294967295 ∷ 32 ∷ []) ≡ 2305843013508661247
-  pub place : placeWord (65535 ∷ []) ≡ 65535
-  pub absent : placeWord [] ≡ 4294967295
+  -- a survey's parts, the mask in two words; and question 4, which asks for four of them, after 3 and before 5
+  pub place : placeWord (5 ∷ 2 ∷ 65535 ∷ []) ≡ 65535
+  pub absent : placeWord (5 ∷ 2 ∷ []) ≡ 4294967295
+  pub parts : partsWords (4294967295 ∷ 32 ∷ 65535 ∷ []) ≡ 4294967295 ∷ 0 ∷ 32 ∷ 65535 ∷ []
+  pub parts-absent : partsWords (5 ∷ 2 ∷ []) ≡ 5 ∷ 0 ∷ 2 ∷ 4294967295 ∷ []
+  pub high-word : partsWords (12884901893 ∷ 4 ∷ 0 ∷ []) ≡ 5 ∷ 3 ∷ 4 ∷ 0 ∷ []
+  pub four-parts : surveyVerdict 0 [] [] (zeros 4) ≡ Passed
+  pub three-parts : surveyVerdict 0 (21 ∷ zeros 7) [] (zeros 3) ≡ Refused 4 0
+  pub ragged-first : surveyVerdict 0 (21 ∷ []) [] (zeros 3) ≡ Refused 3 0
+  pub no-kind : surveyVerdict 0 (21 ∷ zeros 7) [] (zeros 4) ≡ Refused 5 0
   pub records : recordsWord (7 ∷ 6 ∷ 5 ∷ 4 ∷ 3 ∷ 2 ∷ 1 ∷ []) ≡ 7
   -- question 4 asks for seven counts
   pub seven-counts : verdictWith (settingsOf 0 0 0 0 0) [] [] (lent [] [] [] []) (zeros 7) ≡ Passed
@@ -58,16 +66,22 @@ unfolding wellFormed
 one-pair-more file p = rw p
 
 pub export-cases : ExportCases
-unfolding verdictWith roomIn roomFor wordIn wordsIn bytesOf settingsIn tableIn listIn wellFormed fileVerdict refusal recordRefusal
+unfolding surveyVerdict refusalBeside sizesRefusal shapeRefusal shapeNo knownKind recordAt verdictWith roomIn roomFor wordIn wordsIn bytesOf settingsIn tableIn listIn wellFormed fileVerdict refusal recordRefusal
     fewRegisters fewArgs wellSized firstRefusal
 export-cases =
     record {
       unset = refl;
       set = refl;
       refused = refl;
-      used = refl;
       place = refl;
       absent = refl;
+      parts = refl;
+      parts-absent = refl;
+      high-word = refl;
+      four-parts = refl;
+      three-parts = refl;
+      ragged-first = refl;
+      no-kind = refl;
       records = refl;
       seven-counts = refl;
       six-counts = refl;

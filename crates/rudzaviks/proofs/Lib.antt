@@ -4,4 +4,6 @@ pub mod FileVerdict
 pub mod Optimize
 pub mod ReduceBytes
 pub mod Sections
+pub mod Survey
 pub mod WordBounds
+pub mod Written

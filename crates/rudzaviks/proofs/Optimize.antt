@@ -17,21 +17,13 @@ use Rattle.mir.specs.Answers.{over, Report, answered, refused, unless}
 use Rattle.mir.specs.Questions.{refusal}
 use Rattle.mir.proofs.Clash.{clash}
 use Rattle.mir.proofs.Passing.{room-passes}
+use Rattle.rudzaviks.proofs.Written.{written, left-by}
 use Rattle.rudzaviks.specs.Exports.{RudzaviksOptimize, verdictWith, reportWord, recordsWord}
-
--- what an answer's values, or a refusal, leave of a slice
-abbrev written : Report → List ℕ → List ℕ
-written (answered values) held = over values held
-written (refused number index) held = held
-
-left-by : (v : Verdict) (values held : List ℕ) → left v values held ≡ written (unless v values) held
-left-by Passed values held = refl
-left-by (Refused number index) values held = refl
 
 module _ {s : Settings} {list table : List ℕ} {held : Lent} {counts : List ℕ} where
   -- an answer as `optimize` gave it
   pub entry-answered : {now : Lent} {result given : Answer} {nowCounts : List ℕ} → 7 ≤ length counts
-      → Optimized s list table held now result → result ≡ given → nowCounts ≡ written (report given) counts
+      → Optimized s list table held now result → result ≡ given → nowCounts ≡ written (λ values. values) (report given) counts
       → RudzaviksOptimize s list table held counts now nowCounts (reportWord recordsWord (report given))
   unfolding verdictOf verdictWith
   entry-answered {result = result} {given = given} h p g c =
@@ -42,7 +34,7 @@ module _ {s : Settings} {list table : List ℕ} {held : Lent} {counts : List ℕ
         colours = cc;
         ends = cc;
         set = cc;
-        counts = cc (left-by (verdictWith s list table held counts) (countsOf s list table) counts);
+        counts = cc (left-by (λ values. values) (verdictWith s list table held counts) (countsOf s list table) counts);
         preserved = λ q straight.
             let n : reportWord recordsWord (report given) ≡ recordsIn (report result) = cc in
             rw n (p .preserved (cc) straight);

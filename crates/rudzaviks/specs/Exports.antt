@@ -1,8 +1,8 @@
 -- Public: the answers of the exported functions, each as one 64-bit word. Bits 32 to 55 hold the number of the question that
 -- refused the list, 0 for none, so a refusal is never taken for an answer; a refusal's index stands in bits 0 to 31.
-use Prim.Native.Nat.{ℕ, _+_, _*_, _^_}
+use Prim.Native.Nat.{ℕ, _+_, _*_, _/_, _%_, _^_}
 use mathlib.Core.Bool.{Bool, not, _&&_}
-use mathlib.Core.List.{List}
+use mathlib.Core.List.{List, [], _∷_}
 use mathlib.Core.Path.{_≡_}
 use lib.Dec.{eqb, leb}
 use lib.ListN.{getD, length, take}
@@ -12,7 +12,8 @@ use Rattle.mir.specs.declared.config.Settings.{Settings}
 use Rattle.mir.specs.declared.questions.Verdict.{Verdict}
 use Rattle.mir.specs.declared.questions.Verdict.the-variants.{Passed}
 use Rattle.mir.specs.Answers.{Report, answered, refused, unless}
-use Rattle.mir.specs.Questions.{refusal}
+use Rattle.mir.specs.Beside.{parts}
+use Rattle.mir.specs.Questions.{refusal, refusalBeside}
 use Rattle.passes.specs.Contract.{countsOf, wordsOf, reduced, coloursOf, membersOf}
 use Rattle.passes.specs.Create.{endsOf}
 use Rattle.passes.specs.Machine.{AllStraight, RunsEqual}
@@ -35,13 +36,24 @@ abbrev pub reportWord : (List ℕ → ℕ) → Report → ℕ
 reportWord word (answered values) = word values
 reportWord word (refused number index) = refusalWord number index
 
--- the mask in bits 0 to 31, and how many registers it names in bits 56 to 63
-abbrev pub usedWord : List ℕ → ℕ
-usedWord values = getD values 1 0 * 2 ^ 56 + getD values 0 0
+-- ---- rudzaviks_survey
 
 -- the index, or 4,294,967,295 where the label is absent
 abbrev pub placeWord : List ℕ → ℕ
-placeWord values = getD values 0 4294967295
+placeWord values = getD values 2 4294967295
+
+-- the mask's low word and its high one, how many registers it names, and the label's place
+abbrev pub partsWords : List ℕ → List ℕ
+partsWords values = getD values 0 0 % 2 ^ 32 ∷ getD values 0 0 / 2 ^ 32 ∷ getD values 1 0 ∷ placeWord values ∷ []
+
+-- questions 1, 3 and 5 to 7, and after 3 question 4, which asks for a slice of at least four words
+unfoldable pub surveyVerdict : ℕ → List ℕ → List ℕ → List ℕ → Verdict
+surveyVerdict countRegs list table held = refusalBeside (leb 4 (length held)) countRegs list table
+
+-- the promise, with what the lent slice held and holds
+pub record RudzaviksSurvey (countRegs : ℕ) (compress : Bool) (label : ℕ) (list table held now : List ℕ) (given : ℕ) : Type 0 where
+  pub word : given ≡ reportWord placeWord (unless (surveyVerdict countRegs list table held) (parts compress label list))
+  pub words : now ≡ left (surveyVerdict countRegs list table held) (partsWords (parts compress label list)) held
 
 -- ---- rudzaviks_optimize
 

@@ -1,4 +1,3 @@
--- Public: what the exported functions answer, in one word, and the file. Inner stands apart: what only the functions inside say.
+-- Public: what the exported functions answer, in one word, and the file.
 pub mod Exports
 pub mod File
-pub mod Inner

@@ -2,17 +2,16 @@
 pub mod file;
 pub mod reduce;
 
-ghost use Prim.Native.Nat.{_≤_};
-ghost use mathlib.Core.List.{[]};
+ghost use Prim.Native.Nat.{_/_, _%_, _^_, _≤_};
+ghost use mathlib.Core.List.{[], _∷_};
 ghost use mathlib.Core.Path.{_≡_};
-ghost use lib.ListN.{length};
+ghost use lib.ListN.{length, getD};
 ghost use Rattle.walks.specs.Lent.{lent, valuesIn};
-ghost use Rattle.rudzaviks.specs.Exports.{RudzaviksOptimize, flag, settingsOf, refusalWord, reportWord, usedWord, placeWord, recordsWord};
+ghost use Rattle.rudzaviks.specs.Exports.{RudzaviksSurvey, RudzaviksOptimize, flag, settingsOf, refusalWord, reportWord, recordsWord};
 ghost use Rattle.rudzaviks.specs.declared.file.Layout.the-variants as layout;
-ghost use Rattle.rudzaviks.specs.Inner.{FewUsed};
 ghost use Rattle.rudzaviks.specs.File.{RudzaviksReduce, layoutOf};
 ghost use Rattle.mir.specs.Answers.{over, unless};
-ghost use Rattle.mir.specs.Beside.{usedRegisters, usedReport, populateLabels, placeReport};
+ghost use Rattle.mir.specs.Beside.{placeIn};
 use crate::file::Layout;
 use crate::file::layout_of;
 use crate::file::write_words;
@@ -20,10 +19,12 @@ use crate::reduce::reduce_sections;
 use allocator::Answer;
 use allocator::optimize;
 use mir::Place;
-use mir::Used;
+use mir::Surveyed;
 use mir::config::Settings;
 use mir::questions::Verdict;
 use mir::questions::check;
+use mir::questions::check_sizes;
+use mir::survey;
 use walks::Counts;
 
 // A refusal: the question's number above bit 32, the record's index below it.
@@ -46,59 +47,58 @@ pub fn settings_of(count_regs: u32, args: u32, complex: u32, arm: u32, compress:
     }
 }
 
-// The settings that the operations beside the passes look at.
+// The settings that a survey looks at.
 fn settings_beside(count_regs: u32, compress: u32) -> Settings
     ensures { λ r. ⌜ (r .«count_regs» ≡ «count_regs») × (r .compress ≡ flag compress) ⌝ }
 {
     settings_of(count_regs, 0, 0, 0, compress)
 }
 
-fn used_word(used: Used) -> u64
-    requires { ⌜ FewUsed (usedReport used) ⌝ }
-    ensures { λ r. ⌜ r ≡ reportWord usedWord (usedReport used) ⌝ }
+// The label's place as a word: its index, or 4,294,967,295 where it is absent.
+fn place_word(place: Place) -> u32
+    ensures { λ r. ⌜ r ≡ getD (placeIn place) 0 4294967295 ⌝ }
 {
-    match used {
-        Used::Registers(mask, count) => (count as u64) * 72_057_594_037_927_936 + (mask as u64),
-        Used::Refused(number, index) => refusal_word(number, index),
+    match place {
+        Place::At(index) => index,
+        Place::Absent => 4_294_967_295,
     }
 }
 
-// The registers that a list uses: mask and number, or a refusal.
+// The parts of a survey at the start of a slice. A mask of 32 bits has a high word of 0.
+fn write_parts(mask: u32, count: u32, place: u32, parts: &mut [u32])
+    requires { ⌜ 4 ≤ length (now parts) ⌝ }
+    ensures { λ _. ⌜ now (parts .exit) ≡ over (mask % 2 ^ 32 ∷ mask / 2 ^ 32 ∷ count ∷ place ∷ []) (now (parts .entry)) ⌝ }
+{
+    parts[0] = mask;
+    parts[1] = 0;
+    parts[2] = count;
+    parts[3] = place;
+}
+
+// `survey`: the label's place, or a refusal; the mask, how many registers it names and the place go into `parts`.
 #[no_mangle]
-pub extern "C" fn rudzaviks_used_registers(
+pub extern "C" fn rudzaviks_survey(
     list: &[u32],
     table: &[u32],
     count_regs: u32,
     compress: u32,
-) -> u64
-    ensures { λ r. ⌜ r ≡ reportWord usedWord (usedRegisters «count_regs» (flag compress) (now (list .entry)) (now (table .entry))) ⌝ }
-{
-    let settings = settings_beside(count_regs, compress);
-    used_word(mir::used_registers(list, table, settings))
-}
-
-fn place_word(place: Place) -> u64
-    ensures { λ r. ⌜ r ≡ reportWord placeWord (placeReport place) ⌝ }
-{
-    match place {
-        Place::At(index) => index as u64,
-        Place::Absent => 4_294_967_295,
-        Place::Refused(number, index) => refusal_word(number, index),
-    }
-}
-
-// The place of a label in a list: its index, that it is absent, or a refusal.
-#[no_mangle]
-pub extern "C" fn rudzaviks_populate_labels(
-    list: &[u32],
-    table: &[u32],
-    count_regs: u32,
     label: u32,
+    parts: &mut [u32],
 ) -> u64
-    ensures { λ r. ⌜ r ≡ reportWord placeWord (populateLabels «count_regs» label (now (list .entry)) (now (table .entry))) ⌝ }
+    ensures { λ r. ⌜ RudzaviksSurvey «count_regs» (flag compress) label (now (list .entry)) (now (table .entry)) (now (parts .entry)) (now (parts .exit)) r ⌝ }
 {
-    let settings = settings_beside(count_regs, 0);
-    place_word(mir::populate_labels(list, table, settings, label))
+    if parts.len() < 4 {
+        return verdict_word(check_sizes(list.len(), table.len(), count_regs, false));
+    }
+    let settings = settings_beside(count_regs, compress);
+    match survey(list, table, settings, label) {
+        Surveyed::Registers(mask, count, place) => {
+            let index = place_word(place);
+            write_parts(mask, count, index, parts);
+            index as u64
+        }
+        Surveyed::Refused(number, index) => refusal_word(number, index),
+    }
 }
 
 // The seven counts at the start of a slice.

@@ -22,6 +22,8 @@ const SET: usize = 3076;
 
 const COUNTS: usize = 11;
 
+const PARTS: usize = 7;
+
 // What every word of a lent slice is at first.
 const FILL: u32 = 2_779_096_485;
 
@@ -70,15 +72,6 @@ fn read_settings() -> Settings {
     }
 }
 
-// What the exported function answers; 0 for an operation that there is none of.
-fn answer(op: u32, s: Settings, label: u32, list: &[u32], table: &[u32]) -> u64 {
-    match op {
-        1 => rudzaviks::rudzaviks_used_registers(list, table, s.count_regs, s.compress),
-        2 => rudzaviks::rudzaviks_populate_labels(list, table, s.count_regs, label),
-        _ => 0,
-    }
-}
-
 // Whether `got` starts with the next words, their number first, and holds FILL after them.
 fn starts(got: &[u32]) -> bool {
     let n = word() as usize;
@@ -92,6 +85,64 @@ fn starts(got: &[u32]) -> bool {
         i += 1;
     }
     same
+}
+
+// Whether every word is what it was at first.
+fn untouched(parts: [u32; 4]) -> bool {
+    parts[0] == FILL && parts[1] == FILL && parts[2] == FILL && parts[3] == FILL
+}
+
+// A stored answer of one part: the low word, and the high one, whose lower 24 bits are a refusal's number.
+struct Part {
+    low: u32,
+    high: u32,
+}
+
+// Whether the parts have the stored one: the mask and how many registers it names (operation 1), or the label's place (2).
+fn has_part(op: u32, stored: Part, got: u64, parts: [u32; 4]) -> bool {
+    match op {
+        1 => parts[0] == stored.low && parts[1] == 0 && parts[2] == stored.high / 16_777_216,
+        2 => got == stored.low as u64 && parts[3] == stored.low,
+        _ => false,
+    }
+}
+
+// Whether `survey` gives the stored part, or its refusal, which leaves the lent words.
+fn replay_part(
+    op: u32,
+    s: Settings,
+    label: u32,
+    list: &[u32],
+    table: &[u32],
+    stored: Part,
+) -> bool {
+    let mut parts = [FILL; 4];
+    let got = rudzaviks::rudzaviks_survey(list, table, s.count_regs, s.compress, label, &mut parts);
+    if stored.high % 16_777_216 != 0 {
+        let expected = (stored.high as u64) * 4_294_967_296 + (stored.low as u64);
+        return got == expected && untouched(parts);
+    }
+    has_part(op, stored, got, parts)
+}
+
+// Whether `survey` answers `expected`, and leaves the lent slice as it is stored.
+fn surveys(
+    s: Settings,
+    label: u32,
+    list: &[u32],
+    table: &[u32],
+    expected: u64,
+    parts: &mut [u32],
+) -> bool {
+    let got = rudzaviks::rudzaviks_survey(list, table, s.count_regs, s.compress, label, parts);
+    starts(parts) && got == expected
+}
+
+// The same, with a slice of the stored length.
+fn replay_survey(s: Settings, label: u32, list: &[u32], table: &[u32], expected: u64) -> bool {
+    let mut parts = [FILL; PARTS];
+    let n = length_to(PARTS);
+    surveys(s, label, list, table, expected, &mut parts[..n])
 }
 
 // Whether `optimize` answers `expected`, and leaves the lent slices as they are stored.
@@ -155,13 +206,14 @@ fn replay_optimize(s: Settings, list: &[u32], table: &[u32], expected: u64) -> b
 
 // Whether the answer is the stored one, which comes next.
 fn agrees(op: u32, s: Settings, label: u32, list: &[u32], table: &[u32]) -> bool {
-    let low = word() as u64;
-    let high = word() as u64;
-    let expected = high * 4_294_967_296 + low;
-    if op == 3 {
-        return replay_optimize(s, list, table, expected);
+    let low = word();
+    let high = word();
+    let expected = (high as u64) * 4_294_967_296 + (low as u64);
+    match op {
+        3 => replay_optimize(s, list, table, expected),
+        4 => replay_survey(s, label, list, table, expected),
+        _ => replay_part(op, s, label, list, table, Part { low, high }),
     }
-    answer(op, s, label, list, table) == expected
 }
 
 // Whether the next case's answer is the stored one.

@@ -4,23 +4,25 @@
 //! Bits 32 to 55 hold the question's number, 0 for none. With a number, bits 0 to 31 hold the
 //! record's index.
 
+use std::collections::HashMap;
+
 use oracle::Reg;
 
 use crate::file;
-use crate::lent::{has_room, Lent};
+use crate::lent::{has_room, Lent, PARTS};
 use crate::lists::List;
 use crate::questions::{refusal, refusal_beside, Refusal};
 use crate::reduced::Reduced;
 use crate::run;
 use crate::tally::By;
 
-/// Stands in bits 0 to 31 where no Label has the number.
-pub const ABSENT: u64 = 4_294_967_295;
+/// The place of a label that no Label has.
+pub const ABSENT: u32 = 4_294_967_295;
 
-/// What an entry that reduces is to answer and to leave.
+/// What an entry is to answer and to leave.
 #[derive(Debug, PartialEq, Eq)]
 pub struct Answer<L> {
-    /// The number of records that are left, or a refusal.
+    /// The number of records that are left, or the label's place; or a refusal.
     pub word: u64,
     /// What the slices, or the output, then start with. A refusal puts nothing there.
     pub lent: L,
@@ -43,29 +45,75 @@ pub fn refused((number, index): Refusal) -> u64 {
     (u64::from(number) << 32) | index as u64
 }
 
-/// The mask in bits 0 to 31, how many registers it names in bits 56 to 63; or a refusal.
-pub fn used_registers(list: &List) -> u64 {
-    if let Some(no) = refusal_beside(list.settings.count_regs, &list.words, &list.table) {
-        return refused(no);
-    }
-    let mir = run::mir(list).expect("a list that passes has a meaning");
-    let used = mir.used_registers();
-    let mask = used.iter().fold(0, |mask, reg| match reg {
-        Reg::Gen(number) => mask | (1u32 << number),
-        _ => panic!("{reg:?} is no Gen register"),
-    });
-    ((used.len() as u64) << 56) | u64::from(mask)
+/// What the original says of a list that passes.
+struct Said {
+    /// Register r has bit r.
+    mask: u32,
+    /// How many registers there are, by the original's own list of them.
+    count: u32,
+    /// The last index of each label.
+    labels: HashMap<String, usize>,
 }
 
-/// For each of the labels, the index of its last Label, or ABSENT; or a refusal.
-pub fn populate_labels(list: &List, labels: &[u32]) -> Vec<u64> {
-    if let Some(no) = refusal_beside(list.settings.count_regs, &list.words, &list.table) {
-        return vec![refused(no); labels.len()];
+impl Said {
+    fn of(list: &List) -> Said {
+        let mut mir = run::mir(list).expect("a list that passes has a meaning");
+        mir.populate_labels();
+        let used = mir.used_registers();
+        let mask = used.iter().fold(0, |mask, reg| match reg {
+            Reg::Gen(number) => mask | (1u32 << number),
+            _ => panic!("{reg:?} is no Gen register"),
+        });
+        Said { mask, count: used.len() as u32, labels: mir.labels }
     }
-    let mut mir = run::mir(list).expect("a list that passes has a meaning");
-    mir.populate_labels();
-    let place = |label: &u32| mir.labels.get(&label.to_string());
-    labels.iter().map(|label| place(label).map_or(ABSENT, |index| *index as u64)).collect()
+
+    /// The index of the last Label with the number, or ABSENT.
+    fn place(&self, label: u32) -> u32 {
+        self.labels.get(&label.to_string()).map_or(ABSENT, |index| *index as u32)
+    }
+}
+
+/// What `survey` is to answer, whatever label it is asked for: the original runs only once.
+pub struct Survey {
+    /// With a slice that has room.
+    with_room: Result<Said, Refusal>,
+    /// With one that has not.
+    too_short: Refusal,
+}
+
+impl Survey {
+    pub fn of(list: &List) -> Survey {
+        let no = |room| refusal_beside(list.settings.count_regs, &list.words, &list.table, room);
+        let with_room = match no(true) {
+            Some(no) => Err(no),
+            None => Ok(Said::of(list)),
+        };
+        Survey { with_room, too_short: no(false).expect("a refusal, at the latest by 4") }
+    }
+
+    /// The answer with a slice of this many words, and what the slice then starts with.
+    pub fn answer(&self, label: u32, parts_len: usize) -> Answer<Vec<u32>> {
+        if parts_len < PARTS {
+            return Answer::refused(self.too_short);
+        }
+        match &self.with_room {
+            Ok(said) => {
+                let place = said.place(label);
+                let lent = vec![said.mask, 0, said.count, place];
+                Answer { word: u64::from(place), lent, by: By::Original }
+            }
+            Err(no) => Answer::refused(*no),
+        }
+    }
+
+    /// The registers alone, in one word: the mask in bits 0 to 31, how many registers it names in
+    /// bits 56 to 63; or a refusal.
+    pub fn registers(&self) -> u64 {
+        match &self.with_room {
+            Ok(said) => (u64::from(said.count) << 56) | u64::from(said.mask),
+            Err(no) => refused(*no),
+        }
+    }
 }
 
 /// The answer with slices of these lengths.

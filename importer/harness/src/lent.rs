@@ -6,6 +6,9 @@ use crate::random::Random;
 /// Output, colours, ends, set and counts.
 pub type Lent = [Vec<u32>; 5];
 
+/// The fewest words that question 4 asks of the slice that is lent to `survey`.
+pub const PARTS: usize = 4;
+
 /// The fewest words that question 4 asks of each.
 pub fn room(list: &List) -> [usize; 5] {
     let (words, records) = (list.words.len(), list.records());

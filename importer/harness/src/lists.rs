@@ -106,6 +106,20 @@ impl Profile {
         }
     }
 
+    /// Half of the records are labels, of few numbers: most of these come more than once, and some
+    /// are missing.
+    pub fn labelled(random: &mut Random, records: usize) -> Profile {
+        let mut weights = [1; KINDS];
+        [16, 17].iter().for_each(|kind| weights[*kind] = 3);
+        weights[15] = weights.iter().sum();
+        Profile {
+            settings: random_settings(random),
+            extreme: random.pick(&[0, 0, 2, 20]),
+            weights,
+            ..Profile::plain(records)
+        }
+    }
+
     /// The same profile, with straight kinds alone.
     pub fn straight(self) -> Profile {
         self.of_kinds(&STRAIGHT)
@@ -186,6 +200,13 @@ pub fn any_list(random: &mut Random, most_records: u32) -> List {
 /// A list of mostly two-part records.
 pub fn two_part_list(random: &mut Random, most_records: u32) -> List {
     let profile = Profile::two_part(random, most_records);
+    list(random, &profile)
+}
+
+/// A list of many labels with few numbers.
+pub fn labelled_list(random: &mut Random, most_records: u32) -> List {
+    let records = random.between(1, most_records) as usize;
+    let profile = Profile::labelled(random, records);
     list(random, &profile)
 }
 

@@ -35,13 +35,17 @@ pub fn refusal(settings: &Settings, list: &[u32], table: &[u32], room: bool) -> 
     None
 }
 
-/// The questions of the operations beside the passes: 1, 3 and 5 to 7.
-pub fn refusal_beside(count_regs: u32, list: &[u32], table: &[u32]) -> Option<Refusal> {
+/// The questions of the operation beside the passes: 1 and 3 to 7. `room` is the answer to the
+/// fourth, on the lent parts.
+pub fn refusal_beside(count_regs: u32, list: &[u32], table: &[u32], room: bool) -> Option<Refusal> {
     if count_regs > 32 {
         return Some((1, 0));
     }
     if !sizes_fit(list, table) {
         return Some((3, 0));
+    }
+    if !room {
+        return Some((4, 0));
     }
     for (index, record) in list.chunks_exact(8).enumerate() {
         if let Some(number) = first_no(record, table, count_regs) {

@@ -1,17 +1,25 @@
 //! Stored answers, for a replay without Rust.
 //!
-//! All words are 32 bits, little-endian. Word 0 is the number of cases. A case is: the operation (1
-//! used_registers, 2 populate_labels, 3 optimize); count_regs, args, complex, arm, compress; the
-//! label (0 where there is none); the table's length in words and its words; the list's length in
-//! words and its words; the answer's low and high word. With operation 3 the lent slices follow:
-//! output, colours, ends, set, counts. First come their five lengths in words. Then comes for each
-//! the number of words that it starts with in the end, and these words; all others are FILL, as
-//! they were. Each answer is the questions' or the original's, of `optimize` the amended copy's;
-//! none is the verified code's.
+//! All words are 32 bits, little-endian. Word 0 is the number of cases. A case is: the operation;
+//! count_regs, args, complex, arm, compress; the label (0 where there is none); the table's length
+//! in words and its words; the list's length in words and its words; the answer's low and high
+//! word. The operations are
+//!
+//! - 1, the registers of `survey` alone: the answer is their mask in bits 0 to 31 and how many they
+//!   are in bits 56 to 63, or the refusal;
+//! - 2, the label's place of `survey` alone: the answer is the place, or the refusal;
+//! - 3, `optimize`, and 4, `survey`: the answer is the entry's, and the lent slices follow, those of
+//!   `optimize` being output, colours, ends, set and counts, and that of `survey` its parts.
+//!
+//! Of the lent slices first come their lengths in words. Then comes for each the number of words
+//! that it starts with in the end, and these words; all others are FILL, as they were. With
+//! operations 1 and 2 there is room for the parts. Each answer is the questions' or the original's,
+//! of `optimize` the amended copy's; none is the verified code's.
 
 use crate::damage::damaged;
+use crate::damage::Fault::{CountRegs, Kind, OddTable, PartialRecord};
 use crate::file::bytes;
-use crate::lent::{room, Lent};
+use crate::lent::{room, Lent, PARTS};
 use crate::lists::{any_list, list, List, Profile};
 use crate::random::Random;
 use crate::settings::{set_flag, Settings};
@@ -24,18 +32,45 @@ pub const MOST_PAIRS: usize = 512;
 /// The lengths of the replay's slices, in words: what these ask for, and four words more.
 pub const MOST_LENT: [usize; 5] = [4100, 1028, 1028, 3076, 11];
 
+/// The same for the slice of `survey`: what it asks for, and three words more.
+pub const MOST_PARTS: usize = PARTS + 3;
+
 /// What every word of a lent slice is at first.
 pub const FILL: u32 = 2_779_096_485;
 
 #[derive(Clone, Debug, PartialEq, Eq)]
 pub enum Operation {
-    UsedRegisters,
-    PopulateLabels(u32),
+    /// The registers of a survey alone.
+    Registers,
+    /// The place of this label alone.
+    Place(u32),
     /// With slices of these lengths.
     Optimize([usize; 5]),
+    /// The whole of it.
+    Survey { label: u32, parts_len: usize },
 }
 
 use Operation::*;
+
+impl Operation {
+    /// The operation's number in the file.
+    fn number(&self) -> u32 {
+        match self {
+            Registers => 1,
+            Place(_) => 2,
+            Optimize(_) => 3,
+            Survey { .. } => 4,
+        }
+    }
+
+    /// The label that is asked for, 0 where there is none.
+    fn label(&self) -> u32 {
+        match self {
+            Registers | Optimize(_) => 0,
+            Place(label) | Survey { label, .. } => *label,
+        }
+    }
+}
 
 pub struct Case {
     pub operation: Operation,
@@ -46,30 +81,39 @@ pub struct Case {
 
 impl Case {
     pub fn answer(&self) -> u64 {
+        let survey = || answers::Survey::of(&self.list);
         match self.operation {
-            UsedRegisters => answers::used_registers(&self.list),
-            PopulateLabels(label) => answers::populate_labels(&self.list, &[label])[0],
+            Registers => survey().registers(),
+            Place(label) => survey().answer(label, PARTS).word,
             Optimize(lengths) => answers::optimize(&self.list, lengths).word,
+            Survey { label, parts_len } => survey().answer(label, parts_len).word,
+        }
+    }
+
+    /// The lent slices' lengths, and what they start with in the end.
+    fn lent(&self) -> (Vec<usize>, Vec<Vec<u32>>) {
+        match self.operation {
+            Registers | Place(_) => (Vec::new(), Vec::new()),
+            Optimize(lengths) => {
+                (lengths.to_vec(), answers::optimize(&self.list, lengths).lent.to_vec())
+            }
+            Survey { label, parts_len } => {
+                let answer = answers::Survey::of(&self.list).answer(label, parts_len);
+                (vec![parts_len], vec![answer.lent])
+            }
         }
     }
 
     fn words(&self) -> Vec<u32> {
-        let (number, label) = match self.operation {
-            UsedRegisters => (1, 0),
-            PopulateLabels(label) => (2, label),
-            Optimize(_) => (3, 0),
-        };
-        let mut words = vec![number];
+        let mut words = vec![self.operation.number()];
         words.extend(self.list.settings.words(self.flag));
-        words.push(label);
+        words.push(self.operation.label());
         add_parts(&mut words, &[&self.list.table, &self.list.words]);
         let answer = self.answer();
         words.extend([answer as u32, (answer >> 32) as u32]);
-        if let Optimize(lengths) = self.operation {
-            words.extend(lengths.map(|length| length as u32));
-            let lent = answers::optimize(&self.list, lengths).lent;
-            add_parts(&mut words, &lent.each_ref().map(Vec::as_slice));
-        }
+        let (lengths, lent) = self.lent();
+        words.extend(lengths.iter().map(|length| *length as u32));
+        add_parts(&mut words, &lent.iter().map(Vec::as_slice).collect::<Vec<_>>());
         words
     }
 }
@@ -98,20 +142,20 @@ impl Builder {
         self.cases.push(Case { operation, list, flag });
     }
 
-    /// The list for one of the operations: with a label that it has, or with one that it may lack.
+    /// The list for operation 1 or 2: with a label that it has, or with one that it may lack.
     fn add_any(&mut self, list: List) {
         let labels = list.labels();
         let operation = match self.random.below(4) {
-            0 | 1 => UsedRegisters,
-            2 if !labels.is_empty() => PopulateLabels(self.random.pick(&labels)),
-            _ => PopulateLabels(self.random.pick(&[0, 1, 2, u32::MAX])),
+            0 | 1 => Registers,
+            2 if !labels.is_empty() => Place(self.random.pick(&labels)),
+            _ => Place(self.random.pick(&[0, 1, 2, u32::MAX])),
         };
         self.add(list, operation);
     }
 
     fn add_both(&mut self, list: List, label: u32) {
-        self.add(list.clone(), UsedRegisters);
-        self.add(list, PopulateLabels(label));
+        self.add(list.clone(), Registers);
+        self.add(list, Place(label));
     }
 
     /// The list to be reduced: slices as long as is asked, or some words longer.
@@ -126,6 +170,22 @@ impl Builder {
         let mut lengths = room(&list).map(|asked| asked + 1);
         lengths[slice] -= 2;
         self.add(list, Optimize(lengths));
+    }
+
+    /// The list to be surveyed for a label: parts as long as is asked, or up to three words longer.
+    fn add_survey(&mut self, list: List, label: u32) {
+        let parts_len = PARTS + self.random.index(2) * self.random.index(4);
+        self.add(list, Survey { label, parts_len });
+    }
+
+    /// The same for a label that it has, or for one that it may lack.
+    fn add_survey_of_any(&mut self, list: List) {
+        let labels = list.labels();
+        let label = match self.random.below(4) {
+            0..=2 if !labels.is_empty() => self.random.pick(&labels),
+            _ => self.random.pick(&[0, 1, 2, u32::MAX]),
+        };
+        self.add_survey(list, label);
     }
 }
 
@@ -149,6 +209,7 @@ pub fn cases() -> Vec<Case> {
     }
     add_long(&mut builder);
     add_reduced(&mut builder);
+    add_surveyed(&mut builder);
     builder.cases
 }
 
@@ -159,7 +220,7 @@ fn add_long(builder: &mut Builder) {
     let label = long.labels()[0];
     builder.add_both(long.clone(), label);
     long.record_mut(MOST_RECORDS - 1)[0] = 21;
-    builder.add(long, UsedRegisters);
+    builder.add(long, Registers);
 }
 
 /// Lists to be reduced: known ones, random ones with a damaged copy, each slice too short, the
@@ -182,6 +243,42 @@ fn add_reduced(builder: &mut Builder) {
     let long = list(&mut builder.random, &Profile::plain(MOST_RECORDS));
     builder.add_optimize(long);
     stored_lists::two_part().into_iter().for_each(|named| builder.add_optimize(named.list));
+}
+
+/// Lists to be surveyed: known ones, random ones with a damaged copy, many labels with few numbers,
+/// and parts that are too short.
+fn add_surveyed(builder: &mut Builder) {
+    worked_examples::cases().into_iter().for_each(|case| builder.add_survey(case.list, 7));
+    let largest = limits::largest_fields(Settings { count_regs: 32, ..Settings::default() });
+    builder.add_survey(largest, u32::MAX);
+    for _ in 0..14 {
+        let list = any_list(&mut builder.random, 12);
+        builder.add_survey_of_any(list.clone());
+        let copy = damaged(&mut builder.random, &list);
+        builder.add_survey_of_any(copy);
+    }
+    for turn in 0..8 {
+        let profile = Profile::labelled(&mut builder.random, 12);
+        let mut list = list(&mut builder.random, &profile);
+        list.settings.compress = turn % 2 == 0;
+        builder.add_survey(list, turn / 2);
+    }
+    add_parts_too_short(builder);
+}
+
+/// Each length that is too short: for a list that passes, which is refused by 4, and for one with a
+/// fault, which comes with room as well. Questions 1 and 3 come before the fourth, 5 after it.
+fn add_parts_too_short(builder: &mut Builder) {
+    for parts_len in 0..PARTS {
+        let list = list(&mut builder.random, &Profile::plain(3));
+        builder.add(list, Survey { label: 0, parts_len });
+    }
+    for (parts_len, fault) in [CountRegs, PartialRecord, OddTable, Kind].into_iter().enumerate() {
+        let mut list = list(&mut builder.random, &Profile::plain(3));
+        fault.put(&mut builder.random, &mut list, 0);
+        builder.add(list.clone(), Survey { label: 0, parts_len });
+        builder.add_survey(list, 0);
+    }
 }
 
 /// The whole file.

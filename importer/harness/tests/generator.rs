@@ -1,6 +1,6 @@
 //! The generators of lists make what they say.
 
-use harness::lists::{any_list, list, two_part_list, List, Profile};
+use harness::lists::{any_list, labelled_list, list, two_part_list, List, Profile};
 use harness::questions::refusal;
 use harness::random::Random;
 use harness::record::WORDS;
@@ -20,6 +20,7 @@ fn pass_every_question(lists: u64, generate: impl Fn(&mut Random) -> List) {
 fn lists_pass_every_question() {
     pass_every_question(how_many(500_000), |random| any_list(random, 80));
     pass_every_question(how_many(100_000), |random| two_part_list(random, 80));
+    pass_every_question(how_many(100_000), |random| labelled_list(random, 80));
 }
 
 #[test]
@@ -99,6 +100,21 @@ fn every_sort_of_two_part_record_comes_up() {
         }
     }
     assert!(times.iter().flatten().all(|times| *times > 100), "{times:?}");
+}
+
+/// About half of the records are labels, and their numbers are few.
+#[test]
+fn labelled_lists_have_many_labels() {
+    let mut random = Random::new(16);
+    let (mut records, mut labels, mut few) = (0, 0, 0);
+    for _ in 0..2_000 {
+        let list = labelled_list(&mut random, 40);
+        records += list.records();
+        labels += list.labels().len();
+        few += list.labels().iter().filter(|label| **label < 3).count();
+    }
+    assert!(labels > records * 2 / 5 && labels < records * 3 / 5, "{labels} of {records}");
+    assert!(few > labels * 4 / 5, "{few} of {labels}");
 }
 
 /// Locations collide: there is something to drop in many of the lists, and much is kept.

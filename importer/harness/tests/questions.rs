@@ -13,7 +13,7 @@ fn whole(list: &List) -> Option<Refusal> {
 }
 
 fn beside(list: &List) -> Option<Refusal> {
-    refusal_beside(list.settings.count_regs, &list.words, &list.table)
+    refusal_beside(list.settings.count_regs, &list.words, &list.table, true)
 }
 
 fn some_list(random: &mut Random, records: usize) -> List {
@@ -22,7 +22,7 @@ fn some_list(random: &mut Random, records: usize) -> List {
     list(random, &Profile { settings, ..Profile::plain(records) })
 }
 
-/// What the operations beside the passes say of a fault alone.
+/// Whether the operation beside the passes asks for a fault.
 fn asked_beside(number: u32) -> bool {
     matches!(number, 1 | 3 | 5 | 6 | 7)
 }
@@ -81,6 +81,28 @@ fn earlier_questions_decide() {
     decides(&list, false, 2);
     Fault::CountRegs.put(&mut random, &mut list, 0);
     decides(&list, false, 1);
+}
+
+/// Beside the passes the second question is not put.
+#[test]
+fn earlier_questions_decide_beside() {
+    let mut random = Random::new(27);
+    let mut list = some_list(&mut random, 3);
+    let decides = |list: &List, room, number| {
+        let no = refusal_beside(list.settings.count_regs, &list.words, &list.table, room);
+        assert_eq!(no, Some((number, 0)));
+    };
+    decides(&list, false, 4);
+    for (fault, with_room, without) in [
+        (Fault::Kind, 5, 4),
+        (Fault::Args, 5, 4),
+        (Fault::OddTable, 3, 3),
+        (Fault::CountRegs, 1, 1),
+    ] {
+        fault.put(&mut random, &mut list, 0);
+        decides(&list, true, with_room);
+        decides(&list, false, without);
+    }
 }
 
 #[test]

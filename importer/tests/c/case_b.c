@@ -53,13 +53,24 @@ static int untouched(const uint8_t *bytes, size_t from, size_t to)
     return 1;
 }
 
-static void check_beside(void)
+static void check_survey(void)
 {
-    uint64_t used = rudzaviks_used_registers(list, WORDS, table, 0, 1, 0);
-    check(used == ((uint64_t)1 << 56) + 1, "used_registers: register 0 alone");
-    used = rudzaviks_used_registers(list, WORDS, table, 0, 0, 0);
-    check(used == refused(7, 0), "used_registers: no registers");
-    check(rudzaviks_populate_labels(list, WORDS, table, 0, 1, 7) == UINT32_MAX, "populate_labels: absent");
+    static const uint32_t expected[4] = {1, 0, 1, UINT32_MAX};
+    uint32_t parts[6];
+    const uint8_t *bytes = (const uint8_t *)parts;
+    uint64_t word;
+    memset(parts, 165, sizeof parts);
+    word = rudzaviks_survey(list, WORDS, table, 0, 0, 0, 7, parts, 6);
+    check(word == refused(7, 0), "survey: no registers");
+    word = rudzaviks_survey(list, WORDS, table, 0, 1, 0, 7, parts, 3);
+    check(word == refused(4, 0), "survey: parts too short");
+    check(untouched(bytes, 0, sizeof parts), "survey: a refusal leaves all words");
+    word = rudzaviks_survey(list, WORDS, table, 0, 1, 0, 7, parts, 6);
+    check(word == UINT32_MAX, "survey: label 7 is absent");
+    check(memcmp(parts, expected, sizeof expected) == 0, "survey: register 0 alone, label absent");
+    check(untouched(bytes, sizeof expected, sizeof parts), "survey: other words as they were");
+    word = rudzaviks_survey(list, WORDS, table, 0, 1, 1, 7, parts, 4);
+    check(word == UINT32_MAX && parts[0] == UINT32_MAX && parts[1] == 0 && parts[2] == 32, "survey: compress");
 }
 
 static void check_optimize(void)
@@ -103,7 +114,7 @@ static void check_reduce(void)
 
 int main(void)
 {
-    check_beside();
+    check_survey();
     check_optimize();
     check_reduce();
     return failures != 0;

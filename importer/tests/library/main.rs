@@ -1,5 +1,5 @@
-//! The library over the C entries: text, files, and reduced lists with the reasons of what was
-//! dropped.
+//! The library over the C entries: text, files, reduced lists with the reasons of what was dropped,
+//! and surveys.
 
 mod file;
 mod machine;
@@ -7,5 +7,6 @@ mod outcomes;
 mod reduce;
 mod runs;
 mod support;
+mod survey;
 mod text;
 mod two_part;

@@ -9,6 +9,7 @@ use crate::help;
 pub enum Command {
     Reduce,
     Check,
+    Survey,
     Assemble,
     Disassemble,
 }
@@ -30,9 +31,10 @@ pub enum Request {
     Run(Arguments),
 }
 
-const COMMANDS: [(&str, Command); 4] = [
+const COMMANDS: [(&str, Command); 5] = [
     ("reduce", Command::Reduce),
     ("check", Command::Check),
+    ("survey", Command::Survey),
     ("assemble", Command::Assemble),
     ("disassemble", Command::Disassemble),
 ];
@@ -163,6 +165,7 @@ mod tests {
             ("reduce a b", "`b` is a second FILE"),
             ("reduce -o x y", "`-o` is no option of reduce"),
             ("check --plain x", "`--plain` is no option of check"),
+            ("survey -o x y", "`-o` is no option of survey"),
             ("assemble x -o", "-o needs a name"),
         ];
         for (line, what) in cases {

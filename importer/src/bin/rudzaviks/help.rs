@@ -11,6 +11,7 @@ usage: rudzaviks COMMAND [OPTIONS] FILE
 
   reduce       show a list before and after, and why each dropped line was dropped
   check        say whether a list may be reduced; if not, which line is at fault and why
+  survey       show which registers a list uses, and where its labels are
   assemble     write a list as a file of words
   disassemble  write a list as text
   help         this text; `help COMMAND` says more, `help text` explains the text form
@@ -40,6 +41,23 @@ Puts the nine questions that a list must pass before it may be reduced. If the a
 says which question it is, shows the line at fault, and explains.
 ";
 
+const SURVEY: &str = "\
+usage: rudzaviks survey FILE
+
+Shows which general registers the list uses, how many they are, and where its labels are.
+
+A register is used if a line writes it. The condition of a branch counts as well; a line that writes
+two registers, (%0 + %1*im) := ..., counts only if both are general. With the setting compress all
+32 registers are used.
+
+A label is shown if it is in the list or a line jumps to it: the place of the last line that has its
+number, and how many lines have it if several do; or that it is absent, and the first line that
+jumps to it. The number of a call is no label.
+
+Of the nine questions only 1, 3 and 5 to 7 are put: a list that may not be reduced may be surveyed
+all the same. A refusal is explained as `check` does it.
+";
+
 const ASSEMBLE: &str = "\
 usage: rudzaviks assemble [-o OUT] FILE
 
@@ -62,6 +80,7 @@ pub fn on(command: Command) -> String {
     let help = match command {
         Command::Reduce => REDUCE,
         Command::Check => CHECK,
+        Command::Survey => SURVEY,
         Command::Assemble => ASSEMBLE,
         Command::Disassemble => DISASSEMBLE,
     };

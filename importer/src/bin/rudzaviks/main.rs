@@ -1,4 +1,5 @@
-//! The command-line tool: shortens lists, checks them, and turns text into files and back.
+//! The command-line tool: shortens lists, checks and surveys them, and turns text into files and
+//! back.
 
 use std::ffi::OsString;
 use std::process::ExitCode;
@@ -18,6 +19,8 @@ mod help;
 mod input;
 mod output;
 mod side_by_side;
+mod survey;
+mod wrap;
 
 fn main() -> ExitCode {
     let words: Vec<OsString> = std::env::args_os().skip(1).collect();
@@ -53,6 +56,11 @@ fn execute(arguments: &Arguments, input: &Input) -> Result<(), Failure> {
         Command::Check => {
             reduced(input)?;
             output::print(&format!("{}: passes all nine questions\n", input.name))
+        }
+        Command::Survey => {
+            let survey = rudzaviks::survey(&input.records, &input.settings);
+            let survey = survey.map_err(|refusal| explain::refused(input, refusal))?;
+            output::print(&survey::show(input, &survey))
         }
         Command::Assemble => {
             let file = file::write(&input.records, &input.settings);

@@ -3,9 +3,9 @@
 use rudzaviks::{Counts, Outcome, Reduced};
 
 use crate::input::Input;
+use crate::wrap::{wrap, WIDTH};
 
-/// How wide the whole is at most, and the column of the given list.
-const WIDTH: usize = 100;
+/// How wide the column of the given list is at most.
 const BEFORE: usize = 44;
 
 /// One row: the line's number, the line before, a mark, and the line after or why there is none.
@@ -67,23 +67,6 @@ fn columns(rows: &[Row]) -> String {
     text
 }
 
-/// The text in lines of a width, broken at spaces; those after the first are indented by two.
-fn wrap(text: &str, width: usize) -> Vec<String> {
-    let mut lines = vec![String::new()];
-    for word in text.split(' ') {
-        let line = lines.last_mut().expect("there is a line from the start");
-        if line.is_empty() {
-            line.push_str(word);
-        } else if line.len() + 1 + word.len() <= width {
-            line.push(' ');
-            line.push_str(word);
-        } else {
-            lines.push(format!("  {word}"));
-        }
-    }
-    lines
-}
-
 fn summary(counts: &Counts, given: usize) -> String {
     let Counts { records, nops, loads, moves, saves, .. } = counts;
     let dropped = [(nops, "nop"), (loads, "load"), (moves, "move"), (saves, "save")];
@@ -94,17 +77,4 @@ fn summary(counts: &Counts, given: usize) -> String {
     let dropped: Vec<String> = dropped.collect();
     let dropped = if dropped.is_empty() { "nothing".to_string() } else { dropped.join(", ") };
     format!("{given} instructions before, {records} after; dropped: {dropped}\n")
-}
-
-#[cfg(test)]
-mod tests {
-    use super::*;
-
-    #[test]
-    fn long_texts_are_broken_at_spaces() {
-        assert_eq!(wrap("", 5), [""]);
-        assert_eq!(wrap("a bc def", 8), ["a bc def"]);
-        assert_eq!(wrap("a bc def g hi", 6), ["a bc", "  def", "  g hi"]);
-        assert_eq!(wrap("abcdefgh i", 4), ["abcdefgh", "  i"]);
-    }
 }
