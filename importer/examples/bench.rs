@@ -1,25 +1,32 @@
-//! Times the original and the port on the same lists, and prints a table of both.
+//! Times the original and the port on the same lists, and prints two tables of both: of `optimize`,
+//! and of `survey`, which is the original's `used_registers` and `populate_labels` together.
 //!
 //! `cargo run --release --offline --example bench`, in importer/. Timed is the work on lists that
-//! are prepared: the unchanged original's `optimize` on its own form of the list, and the port's C
-//! entry on words and buffers, which it finds as the run before left them. The port puts its
-//! questions; the original has none. Each run takes as many lists as make 65,536 records, first by
-//! one and then by the other; a time is the median of the runs, for one list. A list that left the
-//! oracle runs is timed like any other; the port is to leave as many records as the amended copy.
+//! are prepared: the unchanged original's on its own form of the list, and the port's C entry on
+//! words and buffers, which it finds as the run before left them. The port puts its questions; the
+//! original has none. Each run takes as many lists as make 65,536 records, first by one and then by
+//! the other; a time is the median of the runs, for one list. A list that left the oracle runs is
+//! timed like any other; the port is to leave as many records as the amended copy.
 
+use std::hint::black_box;
 use std::time::{Duration, Instant};
 
+use harness::answers::Survey;
+use harness::lent::PARTS;
 use harness::lists::{list, List, Profile};
 use harness::random::Random;
 use harness::run::{self, Ready, Unchanged};
 use harness::settings::Settings;
-use rudzaviks::ffi::{optimize_word, Buffers};
+use rudzaviks::ffi::{optimize_word, survey_word, Buffers};
 
 const LENGTHS: [usize; 4] = [64, 512, 4_096, 65_536];
 
 const RECORDS: usize = 65_536;
 
 const RUNS: usize = 9;
+
+/// The label that is asked for.
+const LABEL: u32 = 1;
 
 const SETTINGS: Settings =
     Settings { count_regs: 14, args: 0, complex: false, arm: false, compress: false };
@@ -55,20 +62,65 @@ fn median(mut times: Vec<Duration>) -> Duration {
     times[times.len() / 2]
 }
 
-/// The median times of the original and of the port, for one list, in microseconds.
-fn times(lists: &[List]) -> [f64; 2] {
+/// The median times of both ways, taken in turn, for one list, in microseconds.
+fn medians(lists: &[List], mut ways: [&mut dyn FnMut() -> Duration; 2]) -> [f64; 2] {
+    let mut times = [Vec::new(), Vec::new()];
+    for _ in 0..RUNS {
+        for (way, times) in ways.iter_mut().zip(&mut times) {
+            times.push(way());
+        }
+    }
+    times.map(|times| median(times).as_secs_f64() * 1e6 / lists.len() as f64)
+}
+
+fn optimize_times(lists: &[List]) -> [f64; 2] {
     let expected: Vec<u64> =
         lists.iter().map(|list| run::optimize(list).len() as u64 / 8).collect();
     let new = |list: &List| Buffers::new(list.words.len(), list.table.len());
     let mut buffers: Vec<Buffers> = lists.iter().map(new).collect();
-    let (mut original, mut port) = (Vec::new(), Vec::new());
-    for _ in 0..RUNS {
-        original.push(time_original(lists));
+    let mut port = || {
         let (time, answers) = time_port(lists, &mut buffers);
         assert!(answers == expected, "the port leaves other records than it is to leave");
-        port.push(time);
+        time
+    };
+    medians(lists, [&mut || time_original(lists), &mut port])
+}
+
+/// The original's time for both of its operations on all lists.
+fn time_pair(lists: &[List]) -> Duration {
+    let ready = |list: &List| run::mir(list).expect("each record has a meaning");
+    let mut lists: Vec<_> = lists.iter().map(ready).collect();
+    let start = Instant::now();
+    for mir in &mut lists {
+        mir.populate_labels();
+        black_box(mir.used_registers());
     }
-    [original, port].map(|times| median(times).as_secs_f64() * 1e6 / lists.len() as f64)
+    start.elapsed()
+}
+
+/// The port's time for all lists, and the parts that it gives.
+fn time_survey(lists: &[List]) -> (Duration, Vec<[u32; PARTS]>) {
+    let mut parts = vec![[0; PARTS]; lists.len()];
+    let start = Instant::now();
+    for (list, parts) in lists.iter().zip(&mut parts) {
+        survey_word(&list.words, &list.table, list.settings.count_regs, 0, LABEL, parts);
+    }
+    (start.elapsed(), parts)
+}
+
+fn survey_times(lists: &[List]) -> [f64; 2] {
+    let expected: Vec<_> =
+        lists.iter().map(|list| Survey::of(list).answer(LABEL, PARTS).lent).collect();
+    let mut port = || {
+        let (time, parts) = time_survey(lists);
+        assert!(expected == parts, "the port gives other parts than it is to give");
+        time
+    };
+    medians(lists, [&mut || time_pair(lists), &mut port])
+}
+
+fn print_row(columns: &str, [original, port]: [f64; 2]) {
+    println!("| {columns} | {original:.1} | {port:.1} | {:.2} |", port / original);
 }
 
 fn main() {
@@ -77,12 +129,16 @@ fn main() {
     for (kinds, scalar) in [("all", false), ("scalar straight-line", true)] {
         for records in LENGTHS {
             for (locations, cells) in [("few", 3), ("many", records as u32)] {
-                let [original, port] = times(&lists(records, scalar, cells));
-                let ratio = port / original;
-                println!(
-                    "| {records} | {kinds} | {locations} | {original:.1} | {port:.1} | {ratio:.2} |"
-                );
+                let times = optimize_times(&lists(records, scalar, cells));
+                print_row(&format!("{records} | {kinds} | {locations}"), times);
             }
+        }
+    }
+    println!("\n| records | kinds | original's pair, µs | survey, µs | survey / pair |");
+    println!("|--:|---|--:|--:|--:|");
+    for (kinds, scalar) in [("all", false), ("scalar straight-line", true)] {
+        for records in LENGTHS {
+            print_row(&format!("{records} | {kinds}"), survey_times(&lists(records, scalar, 3)));
         }
     }
 }

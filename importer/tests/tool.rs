@@ -128,6 +128,10 @@ fn the_readme_shows_what_the_samples_give() {
         let shown = indented(lists.take_while(|line| !line.is_empty()));
         assert!(readme.contains(&shown), "the README should have:\n{shown}");
     }
+    let output = run(&["survey", NOT_PROMISED], b"").succeeds();
+    let shown = indented(output.out().lines().skip_while(|line| !line.is_empty()));
+    let command = "    ./rudzaviks survey importer/samples/branch.txt\n";
+    assert!(readme.contains(&format!("{command}{shown}")), "the README should have:\n{shown}");
 }
 
 #[test]

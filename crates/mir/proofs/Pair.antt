@@ -2,7 +2,7 @@
 -- `used_registers`, and the others, or its refusal, that of `populate_labels`. The pair's answers stand here as section 6 has them.
 -- By the cases of the refusal, which is the same with room enough.
 use Prim.Native.Nat.{ℕ}
-use mathlib.Core.Bool.{Bool, true}
+use mathlib.Core.Bool.{Bool}
 use mathlib.Core.List.{List, [], _∷_}
 use mathlib.Core.Path.{_≡_, refl}
 use lib.Count.{onesIn}

@@ -3,16 +3,15 @@
 use Prim.Native.Nat.{ℕ, zero, suc, _%_, _≤_, _<_}
 use mathlib.Core.Bool.{Bool, true, false, cond, _&&_}
 use mathlib.Core.List.{List, [], _∷_, _++_}
-use mathlib.Core.Path.{_≡_, refl, sym, _∙_}
+use mathlib.Core.Path.{_≡_, refl, _∙_}
 use native.Mathlib.Omega.{arith}
 use lib.ListN.{length, getD}
 use lib.Dec.{ltb, leb, eqb}
 use borrow.Author.Tests.{lt-ltb, ltb-true, leb-true, eqb-true}
 use Rattle.mir.specs.declared.config.Settings.{Settings}
-use Rattle.mir.specs.declared.questions.Verdict.{Verdict}
 use Rattle.mir.specs.declared.questions.Verdict.the-variants.{Passed, Refused}
 use Rattle.mir.specs.declared.rename.Current.{Current}
-use Rattle.mir.specs.Folds.{all, firstNo, refusedAt, firstRefusal}
+use Rattle.mir.specs.Folds.{all, firstNo, refusedAt}
 use Rattle.mir.specs.Questions.{fewRegisters, fewArgs, wellSized, knownKind, fieldsFit, genFits, gensFit, partnerFits, sourcesNamed}
 use Rattle.mir.specs.Questions.{shapeNo, recordNo, recordBy, recordRefusal, sizesRefusal, refusal}
 use Rattle.mir.specs.Records.{isGen, maxRegs, records, recordAt}

@@ -50,13 +50,14 @@ unfoldable pub lastBelow : (ℕ → Bool) → ℕ → List ℕ
 lastBelow p zero = []
 lastBelow p (suc n) = cond (p n) (n ∷ []) (lastBelow p n)
 
--- the parts of the answer: the mask, how many registers it names, its ones, and the index of the last Label with the number,
--- or no value where it is absent
+-- the parts of the answer: the mask; how many registers it names, which is its ones; and the index of the last Label with the
+-- number, or no value where it is absent
 unfoldable pub parts : Bool → ℕ → List ℕ → List ℕ
 parts compress name list =
     let mask = usedMask compress list in
     mask ∷ onesIn 32 mask ∷ lastBelow (labelAt list name) (records list)
 
+-- a list that passes has these parts; any other is refused
 unfoldable pub surveyOf : ℕ → Bool → ℕ → List ℕ → List ℕ → Report
 surveyOf countRegs compress name list table = unless (refusalBeside true countRegs list table) (parts compress name list)
 

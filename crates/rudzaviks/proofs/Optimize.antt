@@ -3,7 +3,7 @@
 use Prim.Native.Nat.{ℕ, _<_, _≤_}
 use mathlib.Core.Bool.{false, and-true, and-false}
 use mathlib.Core.List.{List, []}
-use mathlib.Core.Path.{_≡_, refl, sym}
+use mathlib.Core.Path.{_≡_, sym}
 use lib.ListN.{length}
 use borrow.Author.Tests.{le-leb, lt-leb}
 use Rattle.allocator.specs.declared.Answer.{Answer}
@@ -13,7 +13,7 @@ use Rattle.passes.specs.Contract.{countsOf}
 use Rattle.mir.specs.declared.config.Settings.{Settings}
 use Rattle.mir.specs.declared.questions.Verdict.{Verdict}
 use Rattle.mir.specs.declared.questions.Verdict.the-variants.{Passed, Refused}
-use Rattle.mir.specs.Answers.{over, Report, answered, refused, unless}
+use Rattle.mir.specs.Answers.{unless}
 use Rattle.mir.specs.Questions.{refusal}
 use Rattle.mir.proofs.Clash.{clash}
 use Rattle.mir.proofs.Passing.{room-passes}

@@ -18,7 +18,10 @@ fn surveyed(case: &Case, label: u32, parts_len: usize) -> (u64, Vec<u32>) {
 fn made(case: &Case, label: u32, of_parts: impl Fn(&[u32]) -> u64) -> u64 {
     match surveyed(case, label, PARTS) {
         (word, parts) if word >> 32 == 0 => of_parts(&parts),
-        (refused, _) => refused,
+        (refused, parts) => {
+            assert_eq!(parts, [FILL; PARTS], "{:?}", case.list);
+            refused
+        }
     }
 }
 

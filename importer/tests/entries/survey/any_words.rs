@@ -1,10 +1,9 @@
 //! Arbitrary words: the C entry answers, and answers what is expected.
 
-use super::support::agree;
+use super::support::{agree, question};
 use crate::arbitrary::arbitrary_list;
 use harness::how_many;
 use harness::lists::List;
-use harness::questions::refusal_beside;
 use harness::random::Random;
 use harness::settings::Settings;
 
@@ -16,8 +15,7 @@ fn any_words_are_answered() {
     for _ in 0..lists {
         let list = arbitrary_list(&mut random);
         agree(&list, &[0, 1]);
-        let no = refusal_beside(list.settings.count_regs, &list.words, &list.table, true);
-        times[no.map_or(0, |(number, _)| number as usize)] += 1;
+        times[question(&list)] += 1;
     }
     for number in [0, 1, 3, 5, 6, 7] {
         assert!(times[number] > lists / 200, "{times:?}");

@@ -37,7 +37,7 @@ fn last_is_given(list: &List, label: u32, places: &[u32]) {
 #[test]
 fn the_last_of_many_labels() {
     let mut random = Random::new(401);
-    let lists = how_many(200_000);
+    let lists = how_many(500_000);
     let (mut absent, mut once, mut repeated, mut named) = (0, 0, 0, 0);
     for _ in 0..lists {
         let list = labelled_list(&mut random, 24);

@@ -1,9 +1,8 @@
 //! Random lists, surveyed through the C entry and by the original.
 
-use super::support::{agree, labels};
+use super::support::{agree, labels, question};
 use harness::damage::damaged;
 use harness::lists::{any_list, list, Profile};
-use harness::questions::refusal_beside;
 use harness::random::Random;
 use harness::settings::Settings;
 use harness::{answers, how_many, limits};
@@ -45,8 +44,7 @@ fn damaged_copies() {
         let list = any_list(&mut random, 80);
         let list = damaged(&mut random, &list);
         agree(&list, &labels(&list));
-        let no = refusal_beside(list.settings.count_regs, &list.words, &list.table, true);
-        times[no.map_or(0, |(number, _)| number as usize)] += 1;
+        times[question(&list)] += 1;
     }
     for number in [0, 1, 3, 5, 6, 7] {
         assert!(times[number] > lists / 100, "{times:?}");

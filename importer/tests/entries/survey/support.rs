@@ -7,6 +7,7 @@ use crate::support::shown;
 use harness::answers::Survey;
 use harness::lent::PARTS;
 use harness::lists::List;
+use harness::questions::refusal_beside;
 use rudzaviks::ffi::survey_word;
 
 /// How many words are lent at most, and how many more are on each side of them.
@@ -22,6 +23,12 @@ type Words = [u32; GUARD + MOST + GUARD];
 /// No two words are equal, and none is a number of registers or a place.
 fn filled() -> Words {
     from_fn(|at| 2_779_096_485 - at as u32)
+}
+
+/// The number of the question that refuses the list, 0 for none.
+pub fn question(list: &List) -> usize {
+    let no = refusal_beside(list.settings.count_regs, &list.words, &list.table, true);
+    no.map_or(0, |(number, _)| number as usize)
 }
 
 /// Labels to ask a list for: its first and last, and some that it may lack.
