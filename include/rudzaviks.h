@@ -30,10 +30,10 @@ extern "C" {
 #endif
 
 /*
- * Surveys a list in one walk: the Gen registers that it writes, those of BranchIf's conditions among them, or all 32 if compress;
- * how many they are; and the place of a label. Answers the index of the last Label with this number, or 4,294,967,295 if
- * there is none. Questions 1, 3 and 5 to 7 are put; the fourth, after the third, asks for at least these words, of which those
- * that are not written stay as they were:
+ * Surveys a list in one walk: which Gen registers it uses, how many they are, and where a label is. Used are the registers that
+ * a record writes (with two of them only if both are Gen) and those of BranchIf's conditions; all 32 if compress. Answers the
+ * index of the last Label with this number, or 4,294,967,295 if there is none. Questions 1, 3 and 5 to 7 are put; the fourth,
+ * after the third, asks for at least these words, of which those that are not written stay as they were:
  *
  *   parts     4                             starts with a mask, one bit for each register, in two words, the low one first
  *                                           and the high one 0; how many registers the mask names; and the answer again

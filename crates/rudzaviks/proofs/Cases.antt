@@ -32,6 +32,7 @@ pub record ExportCases : Type 0 where
   pub high-word : partsWords (12884901893 ∷ 4 ∷ 0 ∷ []) ≡ 5 ∷ 3 ∷ 4 ∷ 0 ∷ []
   pub four-parts : surveyVerdict 0 [] [] (zeros 4) ≡ Passed
   pub three-parts : surveyVerdict 0 (21 ∷ zeros 7) [] (zeros 3) ≡ Refused 4 0
+  pub registers-first : surveyVerdict 33 (21 ∷ []) [] (zeros 3) ≡ Refused 1 0
   pub ragged-first : surveyVerdict 0 (21 ∷ []) [] (zeros 3) ≡ Refused 3 0
   pub no-kind : surveyVerdict 0 (21 ∷ zeros 7) [] (zeros 4) ≡ Refused 5 0
   pub records : recordsWord (7 ∷ 6 ∷ 5 ∷ 4 ∷ 3 ∷ 2 ∷ 1 ∷ []) ≡ 7
@@ -80,6 +81,7 @@ export-cases =
       high-word = refl;
       four-parts = refl;
       three-parts = refl;
+      registers-first = refl;
       ragged-first = refl;
       no-kind = refl;
       records = refl;
