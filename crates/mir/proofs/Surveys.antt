@@ -81,7 +81,8 @@ bad = flat (row 15 7 0 0 0 0 0 0 ∷ row 21 0 0 0 0 0 0 0 ∷ [])
 pub record SurveyCases : Type 0 where
   pub kinds : map getDst each ≡ 0 ∷ 0 ∷ 2 ∷ 2 ∷ 2 ∷ 2 ∷ 0 ∷ 10 ∷ 0 ∷ 2 ∷ 0 ∷ 0 ∷ 0 ∷ 2 ∷ 2 ∷ 0 ∷ 0 ∷ 32 ∷ 2 ∷ 2 ∷ 10 ∷ []
   pub halves : map getDst named ≡ 0 ∷ 0 ∷ 0 ∷ 0 ∷ 0 ∷ 0 ∷ 2147483648 ∷ 8 ∷ []
-  -- the last of two, one alone, the last record's, the largest number, and two that are absent
+  -- the first record's; the last of two, one alone, the last record's, the largest number, and two that are absent
+  pub first : surveyOf 0 false 7 (row 15 7 0 0 0 0 0 0) [] ≡ answered (0 ∷ 0 ∷ 0 ∷ [])
   pub last : of 7 ≡ answered (4 ∷ 1 ∷ 3 ∷ [])
   pub only : of 8 ≡ answered (4 ∷ 1 ∷ 4 ∷ [])
   pub largest : of 4294967295 ≡ answered (4 ∷ 1 ∷ 6 ∷ [])
@@ -106,6 +107,7 @@ survey-cases =
     record {
       kinds = refl;
       halves = refl;
+      first = refl;
       last = refl;
       only = refl;
       largest = refl;
