@@ -52,7 +52,8 @@ two registers, (%0 + %1*im) := ..., counts only if both are general. With the se
 
 A label is shown if it is in the list or a line jumps to it: the place of the last line that has its
 number, and how many lines have it if several do; or that it is absent, and the first line that
-jumps to it. The number of a call is no label.
+jumps to it. The number of a call is no label. Each number takes a walk over the list: thousands of
+them in a long list take seconds.
 
 Of the nine questions only 1, 3 and 5 to 7 are put: a list that may not be reduced may be surveyed
 all the same. A refusal is explained as `check` does it.
