@@ -51,9 +51,8 @@ pub enum Place {
 /// Questions 1, 3 and 5 to 7 are put, so that a list that may not be reduced may be surveyed all
 /// the same. The number of a Call is no label here.
 ///
-/// Each place comes from the proved operation, which walks over the list once for each number: a
-/// thousand numbers in the longest list take less than a second, 65,536 of them half a minute. Who
-/// wants a single label asks [`ffi::survey`], which walks once.
+/// Each place comes from a call of the proved operation, and so from a walk over the list: the time
+/// grows with the numbers as it does with the records. For one label, [`ffi::survey`] walks once.
 ///
 /// ```
 /// use rudzaviks::mir::{branch, branch_if, load_mem, reg, save_mem, set_label};

@@ -67,8 +67,9 @@ unfolding wellFormed
 one-pair-more file p = rw p
 
 pub export-cases : ExportCases
-unfolding surveyVerdict refusalBeside sizesRefusal shapeRefusal shapeNo knownKind recordAt verdictWith roomIn roomFor wordIn wordsIn bytesOf settingsIn tableIn listIn wellFormed fileVerdict refusal recordRefusal
-    fewRegisters fewArgs wellSized firstRefusal
+unfolding surveyVerdict refusalBeside sizesRefusal shapeRefusal shapeNo knownKind recordAt verdictWith roomIn roomFor wordIn
+    wordsIn bytesOf settingsIn tableIn listIn wellFormed fileVerdict refusal recordRefusal fewRegisters fewArgs wellSized
+    firstRefusal
 export-cases =
     record {
       unset = refl;
