@@ -16,8 +16,8 @@
  *
  *   rudzaviks_survey                                       1,024
  *   rudzaviks_optimize, the list being refused             2,048
- *   rudzaviks_optimize, 4,096 records or 65,536           32,768
- *   rudzaviks_reduce                                      90,112
+ *   rudzaviks_optimize, 4,096 records or 65,536           34,816
+ *   rudzaviks_reduce                                      92,160
  */
 #ifndef RUDZAVIKS_H
 #define RUDZAVIKS_H
@@ -31,12 +31,12 @@ extern "C" {
 
 /*
  * Surveys a list in one walk: which Gen registers it uses, how many they are, and where a label is. Used are the registers that
- * a record writes (with two of them only if both are Gen) and those of BranchIf's conditions; all 32 if compress. Answers the
+ * a record writes (with two of them only if both are Gen) and those of BranchIf's conditions; all 64 if compress. Answers the
  * index of the last Label with this number, or 4,294,967,295 if there is none. Questions 1, 3 and 5 to 7 are put; the fourth,
  * after the third, asks for at least these words, of which those that are not written stay as they were:
  *
- *   parts     4                             starts with a mask, one bit for each register, in two words, the low one first
- *                                           and the high one 0; how many registers the mask names; and the answer again
+ *   parts     4                             starts with a mask, one bit for each register, in two words, registers 0 to 31
+ *                                           in the first; how many registers the mask names; and the answer again
  */
 uint64_t rudzaviks_survey(
     const uint32_t *list, size_t list_len,

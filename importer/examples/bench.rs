@@ -1,5 +1,6 @@
-//! Times the original and the port on the same lists, and prints two tables of both: of `optimize`,
-//! and of `survey`, which is the original's `used_registers` and `populate_labels` together.
+//! Times the original and the port on the same lists, and prints three tables of both: of `optimize`
+//! by the length of a list, and by the number of its registers; and of `survey`, which is the
+//! original's `used_registers` and `populate_labels` together.
 //!
 //! `cargo run --release --offline --example bench`, in importer/. Timed is the work on lists that
 //! are prepared: the unchanged original's on its own form of the list, and the port's C entry on
@@ -21,6 +22,13 @@ use rudzaviks::ffi::{optimize_word, survey_word, Buffers};
 
 const LENGTHS: [usize; 4] = [64, 512, 4_096, 65_536];
 
+/// Numbers of registers, and the length of a list for them. The other tables have FEW.
+const REGISTERS: [u32; 3] = [FEW, 32, 64];
+const LENGTH: usize = 4_096;
+const FEW: u32 = 14;
+
+const KINDS: [(&str, bool); 2] = [("all", false), ("scalar straight-line", true)];
+
 const RECORDS: usize = 65_536;
 
 const RUNS: usize = 9;
@@ -28,12 +36,10 @@ const RUNS: usize = 9;
 /// The label that is asked for.
 const LABEL: u32 = 1;
 
-const SETTINGS: Settings =
-    Settings { count_regs: 14, args: 0, complex: false, arm: false, compress: false };
-
-fn lists(records: usize, scalar: bool, cells: u32) -> Vec<List> {
+fn lists(records: usize, scalar: bool, cells: u32, count_regs: u32) -> Vec<List> {
     let mut random = Random::new(records as u64);
-    let profile = Profile { settings: SETTINGS, cells, ..Profile::plain(records) };
+    let settings = Settings { count_regs, ..Settings::default() };
+    let profile = Profile { settings, cells, ..Profile::plain(records) };
     let profile = if scalar { profile.scalar() } else { profile };
     (0..RECORDS / records).map(|_| list(&mut random, &profile)).collect()
 }
@@ -123,22 +129,31 @@ fn print_row(columns: &str, [original, port]: [f64; 2]) {
     println!("| {columns} | {original:.1} | {port:.1} | {:.2} |", port / original);
 }
 
+/// Lists of this length and number of registers; the row begins with one of the two.
+fn print_optimize(first: &str, kinds: (&str, bool), records: usize, count_regs: u32) {
+    for (locations, cells) in [("few", 3), ("many", records as u32)] {
+        let times = optimize_times(&lists(records, kinds.1, cells, count_regs));
+        print_row(&format!("{first} | {} | {locations}", kinds.0), times);
+    }
+}
+
 fn main() {
     println!("| records | kinds | locations | original, µs | port, µs | port / original |");
     println!("|--:|---|---|--:|--:|--:|");
-    for (kinds, scalar) in [("all", false), ("scalar straight-line", true)] {
-        for records in LENGTHS {
-            for (locations, cells) in [("few", 3), ("many", records as u32)] {
-                let times = optimize_times(&lists(records, scalar, cells));
-                print_row(&format!("{records} | {kinds} | {locations}"), times);
-            }
-        }
+    for kinds in KINDS {
+        LENGTHS.iter().for_each(|len| print_optimize(&len.to_string(), kinds, *len, FEW));
+    }
+    println!("\n| registers | kinds | locations | original, µs | port, µs | port / original |");
+    println!("|--:|---|---|--:|--:|--:|");
+    for kinds in KINDS {
+        REGISTERS.iter().for_each(|regs| print_optimize(&regs.to_string(), kinds, LENGTH, *regs));
     }
     println!("\n| records | kinds | original's pair, µs | survey, µs | survey / pair |");
     println!("|--:|---|--:|--:|--:|");
-    for (kinds, scalar) in [("all", false), ("scalar straight-line", true)] {
+    for (kinds, scalar) in KINDS {
         for records in LENGTHS {
-            print_row(&format!("{records} | {kinds}"), survey_times(&lists(records, scalar, 3)));
+            let times = survey_times(&lists(records, scalar, 3, FEW));
+            print_row(&format!("{records} | {kinds}"), times);
         }
     }
 }

@@ -7,6 +7,9 @@ use std::slice;
 use crate::ffi::{Buffers, Counts, Settings};
 use crate::instruction::{Instruction, Loc, Reg};
 
+/// The most general registers that a list may have, by question 1, and so the most colours.
+const MOST_REGS: usize = 64;
+
 /// What became of an instruction.
 #[derive(Clone, Copy, Debug, PartialEq, Eq)]
 pub enum Outcome {
@@ -81,8 +84,8 @@ pub fn outcomes(
     let set = &buffers.set[..2 * counts.members as usize];
     let mut colouring = Colouring {
         colours: colours.iter(),
-        current: [Reg::Ret; 32],
-        held: [None; 32],
+        current: [Reg::Ret; MOST_REGS],
+        held: [None; MOST_REGS],
         read: set.chunks_exact(2).filter(|pair| pair[0] == 0).map(|pair| pair[1]).collect(),
         fixed_mark: settings.fixed_mark(),
     };
@@ -103,9 +106,9 @@ struct Colouring<'a> {
     /// The colours of the statics that are still to come.
     colours: slice::Iter<'a, u32>,
     /// The colour of each general register's last static.
-    current: [Reg; 32],
+    current: [Reg; MOST_REGS],
     /// The location of each colour.
-    held: [Option<Loc>; 32],
+    held: [Option<Loc>; MOST_REGS],
     /// The Stack cells that are read.
     read: HashSet<u32>,
     fixed_mark: u64,
@@ -193,7 +196,7 @@ impl Colouring<'_> {
     }
 
     fn forget(&mut self) -> Option<Reason> {
-        self.held = [None; 32];
+        self.held = [None; MOST_REGS];
         None
     }
 }

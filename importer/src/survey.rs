@@ -46,7 +46,7 @@ pub enum Place {
 /// Surveys a list, or says why it can't be.
 ///
 /// A register is used if a record writes it or branches on it; but a record that writes two counts
-/// only if both are general. With the setting `compress` all 32 are used.
+/// only if both are general. With the setting `compress` all 64 are used.
 ///
 /// Questions 1, 3 and 5 to 7 are put, so that a list that may not be reduced may be surveyed all
 /// the same. The number of a Call is no label here.
@@ -148,6 +148,7 @@ mod tests {
     fn masks_have_their_registers() {
         assert_eq!(registers(0), []);
         assert_eq!(registers(1 << 31 | 0b101), [reg(0), reg(2), reg(31)]);
+        assert_eq!(registers(1 << 63 | 1 << 32), [reg(32), reg(63)]);
         assert_eq!(registers(u64::MAX).len(), 64);
     }
 
@@ -165,8 +166,8 @@ mod tests {
         let Survey { registers, count, .. } = surveyed(&list, settings);
         assert_eq!((registers, count), (vec![reg(1), reg(3), reg(4), reg(8)], 4));
         let compressed = surveyed(&list, Settings { compress: true, ..settings });
-        assert_eq!(compressed.registers, (0..32).map(reg).collect::<Vec<_>>());
-        assert_eq!(compressed.count, 32);
+        assert_eq!(compressed.registers, (0..64).map(reg).collect::<Vec<_>>());
+        assert_eq!(compressed.count, 64);
     }
 
     #[test]
@@ -197,7 +198,7 @@ mod tests {
             let answer = survey(&Records::new(&list), &settings);
             assert_eq!(answer, Err(Refusal { number: 7, index }));
         }
-        let too_many = Settings { count_regs: 33, ..settings };
+        let too_many = Settings { count_regs: 65, ..settings };
         assert_eq!(survey(&Records::default(), &too_many), Err(Refusal { number: 1, index: 0 }));
     }
 }

@@ -18,8 +18,8 @@ use rudzaviks::ffi::{optimize_word, reduce_word, survey_word, Buffers, PARTS};
 /// What the documents state, in bytes.
 const SURVEY: usize = 1_024;
 const REFUSED: usize = 2_048;
-const REDUCED: usize = 32_768;
-const FILE: usize = 90_112;
+const REDUCED: usize = 34_816;
+const FILE: usize = 92_160;
 
 /// The least stack that a thread may have, and a page.
 const LEAST: usize = 16_384;
@@ -28,7 +28,7 @@ const PAGE: usize = 4_096;
 const UNTOUCHED: u8 = 0xa5;
 
 const WIDE: Settings =
-    Settings { count_regs: 32, args: 0, complex: false, arm: false, compress: false };
+    Settings { count_regs: 64, args: 0, complex: false, arm: false, compress: false };
 
 /// glibc's `pthread_attr_t` on x86-64.
 #[repr(C, align(8))]
@@ -101,7 +101,7 @@ fn passing(records: usize) -> List {
 fn refused(records: usize) -> List {
     let mut list = passing(records);
     list.record_mut(records - 2).copy_from_slice(&[15, 0, 0, 0, 0, 0, 0, 0]);
-    list.record_mut(records - 1).copy_from_slice(&[4, 0, 31, 0, 0, 0, 0, 0]);
+    list.record_mut(records - 1).copy_from_slice(&[4, 0, 63, 0, 0, 0, 0, 0]);
     list
 }
 
@@ -118,7 +118,7 @@ fn optimize(what: &str, least: usize, most: usize, list: &List) -> u64 {
 
 #[test]
 fn a_refusal_takes_little() {
-    let none = List { settings: Settings { count_regs: 33, ..WIDE }, ..passing(0) };
+    let none = List { settings: Settings { count_regs: 65, ..WIDE }, ..passing(0) };
     assert_eq!(optimize("refused by 1", 0, REFUSED, &none), 1 << 32);
     for records in [2, 4_096, 65_536] {
         let word = optimize("refused by 9", REFUSED / 2, REFUSED, &refused(records));
@@ -151,7 +151,7 @@ fn a_file() {
 fn survey(what: &str, list: &List, parts_len: usize) -> u64 {
     let mut parts = vec![0; parts_len];
     let mut word = 0;
-    let mut call = || word = survey_word(&list.words, &list.table, 32, 0, 0, &mut parts);
+    let mut call = || word = survey_word(&list.words, &list.table, 64, 0, 0, &mut parts);
     takes(what, 0, SURVEY, &mut call);
     word
 }

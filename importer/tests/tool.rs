@@ -224,7 +224,7 @@ fn a_refusal_is_explained_with_the_line() {
 
 #[test]
 fn refusals_of_every_other_question_are_explained() {
-    run_on("check", "settings count_regs=33\n").fails(1, &["question 1", "count_regs is 33"]);
+    run_on("check", "settings count_regs=65\n").fails(1, &["question 1", "count_regs is 65"]);
     run_on("check", "settings count_regs=1 args=65536\n")
         .fails(1, &["question 2", "args is 65536"]);
     let last = "settings count_regs=2\n(%0 + %1*im) := Mem[4294967295]\n";
@@ -321,21 +321,36 @@ label 4294967295: line 2
 
 #[test]
 fn every_register_may_be_used() {
-    let writes = (0..32).map(|number| format!("%{number} := Mem[0]\n")).collect::<String>();
-    let list = format!("settings count_regs=32\n{writes}");
+    let writes = (0..64).map(|number| format!("%{number} := Mem[0]\n")).collect::<String>();
+    let list = format!("settings count_regs=64\n{writes}");
     let shown = run_on("survey", &list).succeeds();
     lines_fit(shown.out());
-    let names = (0..32).map(|number| format!("%{number}")).collect::<Vec<_>>().join(" ");
+    let names = (0..64).map(|number| format!("%{number}")).collect::<Vec<_>>().join(" ");
     let in_one_line = shown.out().replace("\n  ", " ");
-    assert!(in_one_line.contains(&format!("\n32 of 32 registers used: {names}\nno labels\n")));
+    assert!(in_one_line.contains(&format!("\n64 of 64 registers used: {names}\nno labels\n")));
     let compressed = run_on("survey", "settings count_regs=1 compress\n%0 := Mem[0]\n").succeeds();
     let expected = "\
 settings count_regs=1 args=0 compress
 
-all 32 registers used, since compress is set
+all 64 registers used, since compress is set
 no labels
 ";
     assert_eq!(compressed.out(), expected);
+}
+
+#[test]
+fn the_last_register_is_taken() {
+    let list = "settings count_regs=64 args=0\n%63 := Mem[0]\n%63 := Neg(%63)\nMem[1] := %63\n";
+    run_on("check", list).succeeds();
+    let file = run_on("assemble", list).succeeds().out;
+    assert_eq!(run(&["disassemble", "-"], &file).succeeds().out(), list);
+    let plain = run(&["reduce", "--plain", "-"], list.as_bytes()).succeeds();
+    let left = "%0 := Mem[0]\n%1 := Neg(%0)\nMem[1] := %1\n";
+    assert_eq!(plain.out(), format!("settings count_regs=64 args=0\n{left}"));
+    let shown = run_on("survey", list).succeeds();
+    assert!(shown.out().ends_with("\n\n1 of 64 registers used: %63\nno labels\n"));
+    let fewer = list.replace("=64", "=63");
+    run_on("check", &fewer).fails(1, &["question 7", "the general registers are %0 to %62"]);
 }
 
 /// `check` refuses these by the questions that `survey` does not put.
@@ -356,7 +371,7 @@ fn a_list_that_may_not_be_reduced_is_surveyed() {
 fn a_survey_explains_a_refusal_as_check_does() {
     let long = format!("settings count_regs=1\n{}", "7:\n".repeat(65_537));
     for list in [
-        "settings count_regs=33\n7:\n",
+        "settings count_regs=65\n7:\n",
         &long,
         "settings count_regs=2\n7:\n%0 := Mem[0]\nif not %2 goto 7\n",
         "settings count_regs=0 compress\n%0 := Mem[0]\n",

@@ -1,5 +1,6 @@
 -- Laws that several functions' proofs, and the crates above, cite.
 pub mod Clash
+pub mod Currents
 pub mod Folds
 pub mod Limits
 pub mod Masks

@@ -99,9 +99,9 @@ smalls =
 abbrev pub settings : ℕ → ℕ → Settings
 settings countRegs args = record { «count_regs» = countRegs; args = args; complex = false; arm = false; compress = false }
 
--- 32 registers and 65,535 args pass; `room` is the answer to question 4
+-- 64 registers and 65,535 args pass; `room` is the answer to question 4
 abbrev pub most : Bool → List ℕ → List ℕ → Verdict
-most room = refusal room (settings 32 65535)
+most room = refusal room (settings 64 65535)
 
 -- the record stands after a Nop, and a record of no kind after it; the same for what stands beside the passes
 abbrev pub three : List ℕ → List ℕ
@@ -156,11 +156,11 @@ pub record RegisterLimits : Type 0 where
 -- each question's number and index: what is refused here would be refused by each later question too
 pub record ListLimits : Type 0 where
   pub passing : most true [] [] ≡ Passed
-  pub one : refusal false (settings 33 65536) ragged [] ≡ Refused 1 0
-  pub two : refusal false (settings 32 65536) ragged [] ≡ Refused 2 0
+  pub one : refusal false (settings 65 65536) ragged [] ≡ Refused 1 0
+  pub two : refusal false (settings 64 65536) ragged [] ≡ Refused 2 0
   pub three-list : most false ragged [] ≡ Refused 3 0
   pub three-table : most false (row 21 0 0 0 0 0 0 0) (0 ∷ []) ≡ Refused 3 0
-  pub longest : (list table : List ℕ) → length list ≡ 524288 → length table ≡ 65536 → most true list table ≡ recordRefusal table 32 list
+  pub longest : (list table : List ℕ) → length list ≡ 524288 → length table ≡ 65536 → most true list table ≡ recordRefusal table 64 list
   pub list-too-long : (list table : List ℕ) → length list ≡ 524296 → most false list table ≡ Refused 3 0
   pub table-too-long : (list table : List ℕ) → length table ≡ 65538 → most false list table ≡ Refused 3 0
   pub four : most false (row 21 0 0 0 0 0 0 0) [] ≡ Refused 4 0
@@ -170,12 +170,18 @@ pub record ListLimits : Type 0 where
   pub eight : second (row 8 3 3 0 4294967295 0 0 0) ≡ Refused 8 1
   pub nine : second (row 8 3 3 0 4294967294 0 0 0) ≡ Refused 9 1
   pub later : second (row 8 259 259 0 4294967294 0 0 0) ≡ Refused 5 2
+  -- of 64 registers the last one: written, read after it was written, and read before; the Gen after it, and the last Gen
+  pub written-63 : most true (row 9 63 0 0 0 0 0 0) [] ≡ Passed
+  pub read-63 : most true (flat (row 9 63 0 0 0 0 0 0 ∷ row 6 63 1 0 0 0 0 0 ∷ [])) [] ≡ Passed
+  pub unset-63 : most true (flat (row 9 62 0 0 0 0 0 0 ∷ row 6 63 1 0 0 0 0 0 ∷ [])) [] ≡ Refused 9 1
+  pub gen-64 : most true (row 9 64 0 0 0 0 0 0) [] ≡ Refused 7 0
+  pub gen-255 : most true (row 9 255 0 0 0 0 0 0) [] ≡ Refused 7 0
   -- of a survey: 1, 3, 4 and 5 to 7 alone
-  pub one-beside : refusalBeside false 33 ragged [] ≡ Refused 1 0
-  pub three-beside : refusalBeside false 32 ragged [] ≡ Refused 3 0
-  pub three-table-beside : refusalBeside false 32 (row 21 0 0 0 0 0 0 0) (0 ∷ []) ≡ Refused 3 0
-  pub four-beside : refusalBeside false 32 (row 21 0 0 0 0 0 0 0) [] ≡ Refused 4 0
-  pub passing-beside : refusalBeside true 32 [] [] ≡ Passed
+  pub one-beside : refusalBeside false 65 ragged [] ≡ Refused 1 0
+  pub three-beside : refusalBeside false 64 ragged [] ≡ Refused 3 0
+  pub three-table-beside : refusalBeside false 64 (row 21 0 0 0 0 0 0 0) (0 ∷ []) ≡ Refused 3 0
+  pub four-beside : refusalBeside false 64 (row 21 0 0 0 0 0 0 0) [] ≡ Refused 4 0
+  pub passing-beside : refusalBeside true 64 [] [] ≡ Passed
   pub five-beside : beside (row 21 1 1 1 1 1 1 1) ≡ Refused 5 1
   pub six-beside : beside (row 8 5 3 0 4294967295 1 0 0) ≡ Refused 6 1
   pub seven-beside : beside (row 8 5 3 0 4294967295 0 0 0) ≡ Refused 7 1
@@ -183,7 +189,7 @@ pub record ListLimits : Type 0 where
 
 -- the lengths at their limits, for any list and table
 module _ (list table : List ℕ) where
-  longest-passes : length list ≡ 524288 → length table ≡ 65536 → most true list table ≡ recordRefusal table 32 list
+  longest-passes : length list ≡ 524288 → length table ≡ 65536 → most true list table ≡ recordRefusal table 64 list
   unfolding refusal fewRegisters fewArgs wellSized
   longest-passes h k = rw (h, k)
 
@@ -242,6 +248,11 @@ limit-cases = (
     eight = refl;
     nine = refl;
     later = refl;
+    written-63 = refl;
+    read-63 = refl;
+    unset-63 = refl;
+    gen-64 = refl;
+    gen-255 = refl;
     one-beside = refl;
     three-beside = refl;
     three-table-beside = refl;

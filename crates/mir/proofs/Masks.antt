@@ -1,4 +1,4 @@
--- The mask of used registers: a Gen below the register limit is one bit, and a word's ones are counted in 32 digits.
+-- The mask of used registers: a Gen below the register limit is one bit, and a mask's ones are counted in as many digits.
 -- By the library's laws of powers, of `bitOr` and of `ones`.
 use Prim.Native.Nat.{ℕ, zero, suc, _+_, _*_, _/_, _%_, _^_, _≤_, _<_}
 use mathlib.Core.List.{List, [], _∷_}

@@ -13,7 +13,7 @@ use Rattle.mir.specs.Answers.{Report, answered, refused, unless}
 use Rattle.mir.specs.Beside.{usedMask, labelAt, lastBelow, parts, surveyOf}
 use Rattle.mir.specs.Folds.{firstNo, refusedAt, orElse}
 use Rattle.mir.specs.Questions.{fewRegisters, wellSized, shapeRefusal, sizesRefusal, refusalBeside}
-use Rattle.mir.specs.Records.{records}
+use Rattle.mir.specs.Records.{maxRegs, records}
 
 -- both put questions 1, 3 and 5 to 7
 abbrev pub pairRefusal : ℕ → List ℕ → List ℕ → Verdict
@@ -26,7 +26,7 @@ pairRefusal countRegs list table =
 abbrev pub usedRegisters : ℕ → Bool → List ℕ → List ℕ → Report
 usedRegisters countRegs compress list table =
     let mask = usedMask compress list in
-    unless (pairRefusal countRegs list table) (mask ∷ onesIn 32 mask ∷ [])
+    unless (pairRefusal countRegs list table) (mask ∷ onesIn maxRegs mask ∷ [])
 
 -- the index of the last Label with the number, or no value where it is absent
 abbrev pub populateLabels : ℕ → ℕ → List ℕ → List ℕ → Report

@@ -42,7 +42,8 @@ each =
     ∷ row 20 0 1 3 5 6 7 4
     ∷ []
 
--- named registers: none; both halves of kinds 7 and 20 or none; the last Gen number's bit; both halves the same
+-- named registers: none; both halves of kinds 7 and 20 or none; the last register's bit; both halves the same, and on each side
+-- of bit 32
 abbrev pub named : List (List ℕ)
 named =
     row 4 256 5 0 0 0 0 0
@@ -51,8 +52,9 @@ named =
     ∷ row 7 259 3 0 7 0 0 0
     ∷ row 20 0 1 258 5 6 7 4
     ∷ row 20 0 259 3 5 6 7 4
-    ∷ row 4 31 256 0 0 0 0 0
+    ∷ row 4 63 256 0 0 0 0 0
     ∷ row 7 3 3 0 7 0 0 0
+    ∷ row 7 31 32 0 7 0 0 0
     ∷ []
 
 -- ---- a list
@@ -80,7 +82,7 @@ bad = flat (row 15 7 0 0 0 0 0 0 ∷ row 21 0 0 0 0 0 0 0 ∷ [])
 
 pub record SurveyCases : Type 0 where
   pub kinds : map getDst each ≡ 0 ∷ 0 ∷ 2 ∷ 2 ∷ 2 ∷ 2 ∷ 0 ∷ 10 ∷ 0 ∷ 2 ∷ 0 ∷ 0 ∷ 0 ∷ 2 ∷ 2 ∷ 0 ∷ 0 ∷ 32 ∷ 2 ∷ 2 ∷ 10 ∷ []
-  pub halves : map getDst named ≡ 0 ∷ 0 ∷ 0 ∷ 0 ∷ 0 ∷ 0 ∷ 2147483648 ∷ 8 ∷ []
+  pub halves : map getDst named ≡ 0 ∷ 0 ∷ 0 ∷ 0 ∷ 0 ∷ 0 ∷ 9223372036854775808 ∷ 8 ∷ 6442450944 ∷ []
   -- the first record's; the last of two, one alone, the last record's, the largest number, and two that are absent
   pub first : surveyOf 0 false 7 (row 15 7 0 0 0 0 0 0) [] ≡ answered (0 ∷ 0 ∷ 0 ∷ [])
   pub last : of 7 ≡ answered (4 ∷ 1 ∷ 3 ∷ [])
@@ -89,14 +91,14 @@ pub record SurveyCases : Type 0 where
   pub branch-is-none : of 9 ≡ answered (4 ∷ 1 ∷ [])
   pub nop-is-none : of 0 ≡ answered (4 ∷ 1 ∷ [])
   -- every register if compress, also of no records; no register of no records
-  pub every : surveyOf 3 true 7 labels [] ≡ answered (4294967295 ∷ 32 ∷ 3 ∷ [])
-  pub every-of-none : surveyOf 0 true 7 [] [] ≡ answered (4294967295 ∷ 32 ∷ [])
+  pub every : surveyOf 3 true 7 labels [] ≡ answered (18446744073709551615 ∷ 64 ∷ 3 ∷ [])
+  pub every-of-none : surveyOf 0 true 7 [] [] ≡ answered (18446744073709551615 ∷ 64 ∷ [])
   pub none : surveyOf 0 false 7 [] [] ≡ answered (0 ∷ 0 ∷ [])
-  pub two-records : surveyOf 32 false 0 (flat (row 9 31 0 0 0 0 0 0 ∷ row 9 0 0 0 0 0 0 0 ∷ [])) [] ≡ answered (2147483649 ∷ 2 ∷ [])
+  pub two-records : surveyOf 64 false 0 (flat (row 9 63 0 0 0 0 0 0 ∷ row 9 0 0 0 0 0 0 0 ∷ [])) [] ≡ answered (9223372036854775809 ∷ 2 ∷ [])
   -- a refusal takes the place of every value, also where compress is set
-  pub refused-1 : surveyOf 33 true 7 bad (0 ∷ []) ≡ refused 1 0
-  pub refused-3 : surveyOf 32 true 7 bad (0 ∷ []) ≡ refused 3 0
-  pub refused-5 : surveyOf 32 true 7 bad [] ≡ refused 5 1
+  pub refused-1 : surveyOf 65 true 7 bad (0 ∷ []) ≡ refused 1 0
+  pub refused-3 : surveyOf 64 true 7 bad (0 ∷ []) ≡ refused 3 0
+  pub refused-5 : surveyOf 64 true 7 bad [] ≡ refused 5 1
   pub refused-7 : surveyOf 2 false 7 labels [] ≡ refused 7 5
 
 pub survey-cases : SurveyCases

@@ -1,5 +1,5 @@
 -- Public, document 01, section 6, and document 02, request 13: the used registers and the place of a label, in one survey.
-use Prim.Native.Nat.{ℕ, zero, suc, _^_}
+use Prim.Native.Nat.{ℕ, zero, suc, _-_, _^_}
 use mathlib.Core.Bool.{Bool, true, cond, _&&_}
 use mathlib.Core.List.{List, [], _∷_}
 use lib.Bits.{bitOr}
@@ -12,8 +12,8 @@ use Rattle.mir.specs.declared.Place.the-variants.{At, Absent}
 use Rattle.mir.specs.Answers.{Report, answered, refused, unless}
 use Rattle.mir.specs.Folds.{all}
 use Rattle.mir.specs.Questions.{refusalBeside}
-use Rattle.mir.specs.Records.{records, recordAt, wordAt, isGen}
-use Rattle.mir.specs.Shapes.{any, branchIf, label, dests, sources}
+use Rattle.mir.specs.Records.{records, recordAt, wordAt, isGen, maxRegs}
+use Rattle.mir.specs.Shapes.{branchIf, label, dests, sources}
 
 -- the registers that a record counts: its destinations, and BranchIf its condition
 unfoldable pub counted : List ℕ → List ℕ
@@ -30,13 +30,17 @@ maskOf ws = cond (all isGen ws) (bits ws) 0
 unfoldable pub getDst : List ℕ → ℕ
 getDst rec = maskOf (counted rec)
 
--- of the first i records, and of the whole list: every bit if compress
+-- the mask of all registers
+abbrev pub every : ℕ
+every = 2 ^ maxRegs - 1
+
+-- of the first i records, and of the whole list: every register if compress
 unfoldable pub maskTo : List ℕ → ℕ → ℕ
 maskTo list zero = 0
 maskTo list (suc i) = bitOr (maskTo list i) (getDst (recordAt list i))
 
 unfoldable pub usedMask : Bool → List ℕ → ℕ
-usedMask compress list = cond compress any (maskTo list (records list))
+usedMask compress list = cond compress every (maskTo list (records list))
 
 -- a record is a Label with the given number
 unfoldable pub isLabel : ℕ → List ℕ → Bool
@@ -55,7 +59,7 @@ lastBelow p (suc n) = cond (p n) (n ∷ []) (lastBelow p n)
 unfoldable pub parts : Bool → ℕ → List ℕ → List ℕ
 parts compress name list =
     let mask = usedMask compress list in
-    mask ∷ onesIn 32 mask ∷ lastBelow (labelAt list name) (records list)
+    mask ∷ onesIn maxRegs mask ∷ lastBelow (labelAt list name) (records list)
 
 -- a list that passes has these parts; any other is refused
 unfoldable pub surveyOf : ℕ → Bool → ℕ → List ℕ → List ℕ → Report

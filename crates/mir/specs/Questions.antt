@@ -13,7 +13,7 @@ use Rattle.mir.specs.Records.{records, recordAt, wordAt, isGen, maxRegs}
 use Rattle.mir.specs.Shapes.{any, spc, loadArgs, shapeFor, registers, sources}
 use Rattle.mir.specs.Renaming.{regsTo}
 
--- 1. Is count_regs at most 32?
+-- 1. Is count_regs at most 64?
 unfoldable pub fewRegisters : ℕ → Bool
 fewRegisters countRegs = leb countRegs maxRegs
 

@@ -18,7 +18,7 @@ wordAt rec p = getD rec p 0
 
 -- the most registers that a list may have
 abbrev pub maxRegs : ℕ
-maxRegs = 32
+maxRegs = 64
 
 -- a register word below 256 is Gen of that number; 256 to 259 are the named registers Ret, Temp, Left and Right
 abbrev pub isGen : ℕ → Bool

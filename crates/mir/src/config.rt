@@ -2,6 +2,9 @@
 ghost use mathlib.Core.Path.{_≡_};
 ghost use Rattle.mir.specs.Records.{fixedMark};
 
+// The most registers that a list may have.
+pub const MAX_REGS: usize = 64;
+
 pub struct Settings {
     pub count_regs: u32,
     pub args: u32,

@@ -20,10 +20,9 @@ ghost use mathlib.Core.List.{[], _∷_};
 ghost use mathlib.Core.Path.{_≡_};
 ghost use lib.ListN.{length};
 ghost use Rattle.mir.specs.Answers.{unless};
-ghost use Rattle.mir.specs.Beside.{maskOf, getDst, isLabel, placeIn, parts, surveyOf, surveyReport};
+ghost use Rattle.mir.specs.Beside.{maskOf, getDst, every, isLabel, placeIn, parts, surveyOf, surveyReport};
 ghost use Rattle.mir.specs.Questions.{gensFit, wellSized, shapeRefusal};
 ghost use Rattle.mir.specs.Records.{maxRegs};
-ghost use Rattle.mir.specs.Shapes.{any};
 
 // Where a list has a label: the index of the last Label with its number, or nowhere.
 pub enum Place {
@@ -33,12 +32,12 @@ pub enum Place {
 
 // The answer of `survey`: the mask of used registers, how many it names, and the label's place; or a refusal's number and index.
 pub enum Surveyed {
-    Registers(u32, u32, Place),
+    Registers(u64, u32, Place),
     Refused(u32, u32),
 }
 
 // The bit of a Gen register; none of a named one.
-fn bit(w: u32) -> u32
+fn bit(w: u32) -> u64
     requires { ⌜ (w < 256 → w < maxRegs) ⌝ }
     ensures { λ r. ⌜ r ≡ maskOf (w ∷ []) ⌝ }
 {
@@ -46,7 +45,7 @@ fn bit(w: u32) -> u32
 }
 
 // The bits of two registers, if both are Gen.
-fn two_bits(x: u32, y: u32) -> u32
+fn two_bits(x: u32, y: u32) -> u64
     requires { ⌜ (x < 256 → x < maxRegs) ⌝ }
     requires { ⌜ (y < 256 → y < maxRegs) ⌝ }
     ensures { λ r. ⌜ r ≡ maskOf (x ∷ y ∷ []) ⌝ }
@@ -61,7 +60,7 @@ fn two_bits(x: u32, y: u32) -> u32
 }
 
 // The mask of the registers that a record counts.
-fn get_dst(rec: [u32; 8]) -> u32
+fn get_dst(rec: [u32; 8]) -> u64
     requires { ⌜ gensFit maxRegs rec ≡ true ⌝ }
     ensures { λ r. ⌜ r ≡ getDst rec ⌝ }
 {
@@ -99,10 +98,10 @@ fn later_label(found: Place, rec: [u32; 8], i: u32, label: u32) -> Place
 }
 
 // The mask of a list, by the mask of its records: every register if `compress` is set.
-fn used_mask(mask: u32, compress: bool) -> u32
-    ensures { λ r. ⌜ r ≡ cond compress any mask ⌝ }
+fn used_mask(mask: u64, compress: bool) -> u64
+    ensures { λ r. ⌜ r ≡ cond compress every mask ⌝ }
 {
-    if compress { 4_294_967_295 } else { mask }
+    if compress { u64::MAX } else { mask }
 }
 
 // The one walk: each record is asked questions 5 to 7 before its registers are counted and its label is looked at.
@@ -127,7 +126,7 @@ fn survey_records(list: &[u32], table: &[u32], settings: Settings, label: u32) -
         i += 1;
     }
     let used = used_mask(mask, settings.compress);
-    Surveyed::Registers(used, u32::count_ones(used), place)
+    Surveyed::Registers(used, u64::count_ones(used), place)
 }
 
 // The registers that a list uses, how many they are, and the place of the last Label with the number `label`.

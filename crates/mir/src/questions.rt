@@ -1,9 +1,12 @@
 // The questions before reducing (document 01, section 7).
 
+use crate::config::MAX_REGS;
 use crate::config::Settings;
 use crate::record::record_at;
 use crate::rename::Current;
+use crate::rename::UNSET;
 use crate::rename::count_statics;
+use crate::rename::current_of;
 use crate::rename::rename;
 use crate::shape::LOAD_ARGS;
 use crate::shape::shape_of;
@@ -12,6 +15,7 @@ ghost use mathlib.Core.Bool.{cond, true};
 ghost use mathlib.Core.Path.{_≡_};
 ghost use lib.ListN.{length, take, drop};
 ghost use Rattle.mir.specs.Folds.{all};
+ghost use Rattle.mir.specs.Inner.{currentsIn};
 ghost use Rattle.mir.specs.Questions.{wellSized, wordsFit, pairsFit, fieldsFit, genFits, gensFit, partnerFits, named, sourcesNamed, shapeNo, recordNo, recordRefusal, sizesRefusal, refusal};
 ghost use Rattle.mir.specs.Records.{maxRegs};
 
@@ -145,15 +149,15 @@ pub fn check_shape(rec: [u32; 8], table: &[u32], count_regs: u32) -> u32
 }
 
 // Question 9, of one source word: 9 where it is a Gen without a static, else 0.
-fn check_source(regs: [Current; 32], w: u32) -> u32
+fn check_source(regs: [u32; MAX_REGS], w: u32) -> u32
     requires { ⌜ (w < 256 → w < maxRegs) ⌝ }
-    ensures { λ r. ⌜ r ≡ cond (named regs w) 0 9 ⌝ }
+    ensures { λ r. ⌜ r ≡ cond (named (currentsIn regs) w) 0 9 ⌝ }
 {
     if 256 <= w {
         return 0;
     }
     let r = w as usize;
-    let current = regs[r];
+    let current = current_of(regs[r]);
     let Current::Static(_) = current else {
         return 9;
     };
@@ -161,10 +165,10 @@ fn check_source(regs: [Current; 32], w: u32) -> u32
 }
 
 // Question 9, of the `count` source words from `from` on.
-fn check_source_words(regs: [Current; 32], rec: [u32; 8], from: usize, count: usize) -> u32
+fn check_source_words(regs: [u32; MAX_REGS], rec: [u32; 8], from: usize, count: usize) -> u32
     requires { ⌜ from + count ≤ 8 ⌝ }
     requires { ⌜ all (genFits maxRegs) (take count (drop from rec)) ≡ true ⌝ }
-    ensures { λ r. ⌜ r ≡ cond (all (named regs) (take count (drop from rec))) 0 9 ⌝ }
+    ensures { λ r. ⌜ r ≡ cond (all (named (currentsIn regs)) (take count (drop from rec))) 0 9 ⌝ }
 {
     let mut j = 0;
     while j < count {
@@ -178,9 +182,9 @@ fn check_source_words(regs: [Current; 32], rec: [u32; 8], from: usize, count: us
 }
 
 // Question 9.
-fn check_sources(regs: [Current; 32], rec: [u32; 8]) -> u32
+fn check_sources(regs: [u32; MAX_REGS], rec: [u32; 8]) -> u32
     requires { ⌜ gensFit maxRegs rec ≡ true ⌝ }
-    ensures { λ r. ⌜ r ≡ cond (sourcesNamed regs rec) 0 9 ⌝ }
+    ensures { λ r. ⌜ r ≡ cond (sourcesNamed (currentsIn regs) rec) 0 9 ⌝ }
 {
     let s = shape_of(rec[0]);
     let from = s.regs + s.dsts;
@@ -189,9 +193,9 @@ fn check_sources(regs: [Current; 32], rec: [u32; 8]) -> u32
 }
 
 // What a record is refused by, or 0: questions 5 to 9.
-fn check_record(rec: [u32; 8], table: &[u32], count_regs: u32, regs: [Current; 32]) -> u32
+fn check_record(rec: [u32; 8], table: &[u32], count_regs: u32, regs: [u32; MAX_REGS]) -> u32
     requires { ⌜ «count_regs» ≤ maxRegs ⌝ }
-    ensures { λ r. ⌜ r ≡ recordNo (now (table .entry)) «count_regs» regs rec ⌝ }
+    ensures { λ r. ⌜ r ≡ recordNo (now (table .entry)) «count_regs» (currentsIn regs) rec ⌝ }
 {
     let by = check_shape(rec, table, count_regs);
     if by != 0 {
@@ -207,7 +211,7 @@ fn check_record(rec: [u32; 8], table: &[u32], count_regs: u32, regs: [Current; 3
 pub fn check_sizes(list: usize, table: usize, count_regs: u32, room: bool) -> Verdict
     ensures { λ r. ⌜ r ≡ sizesRefusal room «count_regs» list table ⌝ }
 {
-    if 32 < count_regs {
+    if MAX_REGS < count_regs as usize {
         return Verdict::Refused(1, 0);
     }
     if !well_sized(list, table) {
@@ -223,7 +227,7 @@ pub fn check_sizes(list: usize, table: usize, count_regs: u32, room: bool) -> Ve
 pub fn check(list: &[u32], table: &[u32], settings: Settings, room: bool) -> Verdict
     ensures { λ r. ⌜ r ≡ refusal room settings (now (list .entry)) (now (table .entry)) ⌝ }
 {
-    if 32 < settings.count_regs {
+    if MAX_REGS < settings.count_regs as usize {
         return Verdict::Refused(1, 0);
     }
     if 65_535 < settings.args {
@@ -245,7 +249,7 @@ fn check_records(list: &[u32], table: &[u32], count_regs: u32) -> Verdict
     ensures { λ r. ⌜ r ≡ recordRefusal (now (table .entry)) «count_regs» (now (list .entry)) ⌝ }
 {
     let n = list.len() / 8;
-    let mut regs = [Current::Unset; 32];
+    let mut regs = [UNSET; MAX_REGS];
     let mut statics = 0;
     let mut i = 0;
     while i < n {

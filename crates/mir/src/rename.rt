@@ -1,4 +1,5 @@
 // Which static each register holds (document 01, section 2).
+use crate::config::MAX_REGS;
 use crate::shape::CALL;
 use crate::shape::Dests;
 use crate::shape::LABEL;
@@ -6,15 +7,31 @@ use crate::shape::dests_of;
 ghost use Prim.Native.Nat.{_+_, _<_};
 ghost use mathlib.Core.Bool.{true};
 ghost use mathlib.Core.Path.{_≡_};
+ghost use Rattle.mir.specs.Inner.{currentIn, currentsIn};
 ghost use Rattle.mir.specs.Questions.{gensFit};
 ghost use Rattle.mir.specs.Records.{maxRegs};
 ghost use Rattle.mir.specs.Renaming.{gens, one, produced, renamed};
-ghost use Rattle.mir.specs.Shapes.{dests};
+ghost use Rattle.mir.specs.Shapes.{any, dests};
 
 // A register's current static: the Rust's `Option<usize>`.
 pub enum Current {
     Static(u32),
     Unset,
+}
+
+// The word of a register without a static. Which static each register holds goes from function to function by value, and an
+// array of words is copied several times as fast as one of enums.
+pub const UNSET: u32 = 4_294_967_295;
+
+// What the word of a register says.
+pub fn current_of(word: u32) -> Current
+    ensures { λ r. ⌜ r ≡ currentIn word ⌝ }
+{
+    if word == UNSET {
+        Current::Unset
+    } else {
+        Current::Static(word)
+    }
 }
 
 // How many statics a destination makes.
@@ -25,14 +42,15 @@ pub fn count_static(w: u32) -> u32
 }
 
 // A written Gen register takes the static `next`.
-fn produce(regs: [Current; 32], w: u32, next: u32) -> [Current; 32]
+fn produce(regs: [u32; MAX_REGS], w: u32, next: u32) -> [u32; MAX_REGS]
     requires { ⌜ (w < 256 → w < maxRegs) ⌝ }
-    ensures { λ r. ⌜ r ≡ Rattle.mir.specs.Renaming.produce w next regs ⌝ }
+    requires { ⌜ next < any ⌝ }
+    ensures { λ r. ⌜ currentsIn r ≡ Rattle.mir.specs.Renaming.produce w next (currentsIn regs) ⌝ }
 {
     let mut out = regs;
     if w < 256 {
         let r = w as usize;
-        out[r] = Current::Static(next);
+        out[r] = next;
     }
     out
 }
@@ -49,10 +67,10 @@ pub fn count_statics(rec: [u32; 8]) -> u32
 }
 
 // The registers after the destinations of a record; its first new static is `next`.
-fn produce_all(regs: [Current; 32], rec: [u32; 8], next: u32) -> [Current; 32]
+fn produce_all(regs: [u32; MAX_REGS], rec: [u32; 8], next: u32) -> [u32; MAX_REGS]
     requires { ⌜ gensFit maxRegs rec ≡ true ⌝ }
-    requires { ⌜ next < 4294967295 ⌝ }
-    ensures { λ r. ⌜ r ≡ produced (dests rec) next regs ⌝ }
+    requires { ⌜ next + 1 < any ⌝ }
+    ensures { λ r. ⌜ currentsIn r ≡ produced (dests rec) next (currentsIn regs) ⌝ }
 {
     match dests_of(rec) {
         Dests::Nothing => regs,
@@ -62,14 +80,14 @@ fn produce_all(regs: [Current; 32], rec: [u32; 8], next: u32) -> [Current; 32]
 }
 
 // The registers after a record.
-pub fn rename(regs: [Current; 32], rec: [u32; 8], next: u32) -> [Current; 32]
+pub fn rename(regs: [u32; MAX_REGS], rec: [u32; 8], next: u32) -> [u32; MAX_REGS]
     requires { ⌜ gensFit maxRegs rec ≡ true ⌝ }
-    requires { ⌜ next < 4294967295 ⌝ }
-    ensures { λ r. ⌜ r ≡ renamed rec next regs ⌝ }
+    requires { ⌜ next + 1 < any ⌝ }
+    ensures { λ r. ⌜ currentsIn r ≡ renamed rec next (currentsIn regs) ⌝ }
 {
     let kind = rec[0];
     match kind {
-        CALL | LABEL => [Current::Unset; 32],
+        CALL | LABEL => [UNSET; MAX_REGS],
         _ => produce_all(regs, rec, next),
     }
 }

@@ -68,7 +68,7 @@ pub record TenCases : Type 0 where
   pub f : of 1 caseF ≡ answered caseF
   pub g : of 2 (loadConst 0 0 ++ (label 7 ++ save 0 mem 0)) ≡ refused 9 2
   pub h : of 2 (loadConst 2 0) ≡ refused 7 0
-  pub i : of 33 [] ≡ refused 1 0
+  pub i : of 65 [] ≡ refused 1 0
   pub j : of 2 (mov 1 0) ≡ refused 9 0
 
 pub ten-cases : TenCases

@@ -11,6 +11,7 @@ use Rattle.mir.specs.declared.shape.Action.{Action}
 use Rattle.mir.specs.declared.shape.Action.the-variants as action
 use Rattle.mir.specs.Records.{isGen, maxRegs}
 use Rattle.mir.proofs.Clash.{clash}
+use Rattle.mir.proofs.Currents.{map-set}
 use Rattle.passes.specs.declared.alloc.Alloc.{Alloc}
 use Rattle.passes.specs.declared.alloc.Held.the-variants.{Nothing, At}
 use Rattle.passes.specs.declared.symbol.Loc.{Loc}
@@ -51,11 +52,6 @@ give-length w l allocs = go (isGen w)
     go false = refl
 
 -- clearing a location after another one was given is clearing it before
-map-set {ℓ} : {A : Type ℓ} (f : A → A) (xs : List A) (k : ℕ) (a : A) → map f (set xs k a) ≡ set (map f xs) k (f a)
-map-set f [] k a = refl
-map-set f (x ∷ xs) zero a = refl
-map-set f (x ∷ xs) (suc k) a = ap (λ r. f x ∷ r) (map-set f xs k a)
-
 pub clear-give : (w : ℕ) (l k : Loc) (allocs : List Alloc) → sameLoc l k ≡ false → clear k (give w l allocs) ≡ give w l (clear k allocs)
 clear-give w l k allocs apart = go (isGen w)
   where

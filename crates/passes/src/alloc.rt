@@ -7,6 +7,7 @@ pub enum Held {
     At(Loc),
 }
 
+// A colour, as the definitions have it; the walks keep it in plain words (`Slot`).
 pub struct Alloc {
     // The colour is needed up to this instruction.
     pub life: u32,

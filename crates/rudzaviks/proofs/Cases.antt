@@ -27,12 +27,12 @@ pub record ExportCases : Type 0 where
   -- a survey's parts, the mask in two words; and question 4, which asks for four of them, after 3 and before 5
   pub place : placeWord (5 ∷ 2 ∷ 65535 ∷ []) ≡ 65535
   pub absent : placeWord (5 ∷ 2 ∷ []) ≡ 4294967295
-  pub parts : partsWords (4294967295 ∷ 32 ∷ 65535 ∷ []) ≡ 4294967295 ∷ 0 ∷ 32 ∷ 65535 ∷ []
+  pub parts : partsWords (18446744073709551615 ∷ 64 ∷ 65535 ∷ []) ≡ 4294967295 ∷ 4294967295 ∷ 64 ∷ 65535 ∷ []
   pub parts-absent : partsWords (5 ∷ 2 ∷ []) ≡ 5 ∷ 0 ∷ 2 ∷ 4294967295 ∷ []
   pub high-word : partsWords (12884901893 ∷ 4 ∷ 0 ∷ []) ≡ 5 ∷ 3 ∷ 4 ∷ 0 ∷ []
   pub four-parts : surveyVerdict 0 [] [] (zeros 4) ≡ Passed
   pub three-parts : surveyVerdict 0 (21 ∷ zeros 7) [] (zeros 3) ≡ Refused 4 0
-  pub registers-first : surveyVerdict 33 (21 ∷ []) [] (zeros 3) ≡ Refused 1 0
+  pub registers-first : surveyVerdict 65 (21 ∷ []) [] (zeros 3) ≡ Refused 1 0
   pub ragged-first : surveyVerdict 0 (21 ∷ []) [] (zeros 3) ≡ Refused 3 0
   pub no-kind : surveyVerdict 0 (21 ∷ zeros 7) [] (zeros 4) ≡ Refused 5 0
   pub records : recordsWord (7 ∷ 6 ∷ 5 ∷ 4 ∷ 3 ∷ 2 ∷ 1 ∷ []) ≡ 7

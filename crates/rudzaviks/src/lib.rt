@@ -64,13 +64,13 @@ fn place_word(place: Place) -> u32
     }
 }
 
-// The parts of a survey at the start of a slice. A mask of 32 bits has a high word of 0.
-fn write_parts(mask: u32, count: u32, place: u32, parts: &mut [u32])
+// The parts of a survey at the start of a slice: the mask as two words, the low one first.
+fn write_parts(mask: u64, count: u32, place: u32, parts: &mut [u32])
     requires { ⌜ 4 ≤ length (now parts) ⌝ }
     ensures { λ _. ⌜ now (parts .exit) ≡ over (mask % 2 ^ 32 ∷ mask / 2 ^ 32 ∷ count ∷ place ∷ []) (now (parts .entry)) ⌝ }
 {
-    parts[0] = mask;
-    parts[1] = 0;
+    parts[0] = (mask % 4_294_967_296) as u32;
+    parts[1] = (mask / 4_294_967_296) as u32;
     parts[2] = count;
     parts[3] = place;
 }

@@ -99,9 +99,11 @@ struct Part {
 }
 
 // Whether the parts have the stored one: the mask and how many registers it names (operation 1), or the label's place (2).
-fn has_part(op: u32, stored: Part, got: u64, parts: [u32; 4]) -> bool {
+// Operation 1 has lists of at most 32 registers, so that the mask's high word has every bit with `compress`, and else none.
+fn has_part(op: u32, compress: u32, stored: Part, got: u64, parts: [u32; 4]) -> bool {
+    let above = if compress == 0 { 0 } else { 4_294_967_295 };
     match op {
-        1 => parts[0] == stored.low && parts[1] == 0 && parts[2] == stored.high / 16_777_216,
+        1 => parts[0] == stored.low && parts[1] == above && parts[2] == stored.high / 16_777_216,
         2 => got == stored.low as u64 && parts[3] == stored.low,
         _ => false,
     }
@@ -122,7 +124,7 @@ fn replay_part(
         let expected = (stored.high as u64) * 4_294_967_296 + (stored.low as u64);
         return got == expected && untouched(parts);
     }
-    has_part(op, stored, got, parts)
+    has_part(op, s.compress, stored, got, parts)
 }
 
 // Whether `survey` answers `expected`, and leaves the lent slice as it is stored.

@@ -3,4 +3,5 @@ pub mod Bits
 pub mod Over
 pub mod Words
 pub mod Registers
+pub mod Slots
 pub mod Walks

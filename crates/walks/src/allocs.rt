@@ -1,8 +1,8 @@
 // What a record's action does to the colours (document 01, section 3).
 use crate::pool::holds;
+use crate::slot::Slot;
+use mir::config::MAX_REGS;
 use mir::shape::Action;
-use passes::alloc::Alloc;
-use passes::alloc::Held;
 use passes::symbol::Loc;
 ghost use Prim.Native.Nat.{_<_};
 ghost use mathlib.Core.Path.{_≡_};
@@ -11,38 +11,41 @@ ghost use Rattle.mir.specs.Shapes.{any};
 ghost use Rattle.mir.specs.declared.shape.Action.the-variants as act;
 ghost use Rattle.passes.specs.Color.{blank};
 ghost use Rattle.passes.specs.Color as color;
+ghost use Rattle.walks.specs.Slots.{allocIn, allocsIn};
 
 // Every life 0, no location.
-pub fn reset_allocs() -> [Alloc; 32]
-    ensures { λ r. ⌜ r ≡ blank ⌝ }
+pub fn reset_allocs() -> [Slot; MAX_REGS]
+    ensures { λ r. ⌜ allocsIn r ≡ blank ⌝ }
 {
-    [Alloc {
+    [Slot {
         life: 0,
-        loc: Held::Nothing,
-    }; 32]
+        full: false,
+        loc: Loc { space: 0, index: 0 },
+    }; MAX_REGS]
 }
 
 // A colour without the location.
-fn without(a: Alloc, l: Loc) -> Alloc
-    ensures { λ r. ⌜ r ≡ color.without l a ⌝ }
+fn without(s: Slot, l: Loc) -> Slot
+    ensures { λ r. ⌜ allocIn r ≡ color.without l (allocIn s) ⌝ }
 {
-    if holds(a, l) {
-        Alloc {
-            life: a.life,
-            loc: Held::Nothing,
+    if holds(s, l) {
+        Slot {
+            life: s.life,
+            full: false,
+            loc: l,
         }
     } else {
-        a
+        s
     }
 }
 
 // Clears the location from every colour.
-fn clear(allocs: [Alloc; 32], l: Loc) -> [Alloc; 32]
-    ensures { λ r. ⌜ r ≡ color.clear l allocs ⌝ }
+fn clear(allocs: [Slot; MAX_REGS], l: Loc) -> [Slot; MAX_REGS]
+    ensures { λ r. ⌜ allocsIn r ≡ color.clear l (allocsIn allocs) ⌝ }
 {
     let mut out = allocs;
     let mut c = 0;
-    while c < 32 {
+    while c < MAX_REGS {
         let left = without(out[c], l);
         out[c] = left;
         c += 1;
@@ -51,17 +54,18 @@ fn clear(allocs: [Alloc; 32], l: Loc) -> [Alloc; 32]
 }
 
 // Gives the location to a source's colour, if the source is Gen.
-fn give(allocs: [Alloc; 32], w: u32, l: Loc) -> [Alloc; 32]
+fn give(allocs: [Slot; MAX_REGS], w: u32, l: Loc) -> [Slot; MAX_REGS]
     requires { ⌜ (w < 256 → w < maxRegs) ⌝ }
-    ensures { λ r. ⌜ r ≡ color.give w l allocs ⌝ }
+    ensures { λ r. ⌜ allocsIn r ≡ color.give w l (allocsIn allocs) ⌝ }
 {
     let mut out = allocs;
     if w < 256 {
         let c = w as usize;
         let old = out[c];
-        out[c] = Alloc {
+        out[c] = Slot {
             life: old.life,
-            loc: Held::At(l),
+            full: true,
+            loc: l,
         };
     }
     out
@@ -77,18 +81,18 @@ pub fn partner(l: Loc) -> Loc
     }
 }
 
-fn save(allocs: [Alloc; 32], l: Loc, x: u32) -> [Alloc; 32]
+fn save(allocs: [Slot; MAX_REGS], l: Loc, x: u32) -> [Slot; MAX_REGS]
     requires { ⌜ (x < 256 → x < maxRegs) ⌝ }
-    ensures { λ r. ⌜ r ≡ color.give x l (color.clear l allocs) ⌝ }
+    ensures { λ r. ⌜ allocsIn r ≡ color.give x l (color.clear l (allocsIn allocs)) ⌝ }
 {
     give(clear(allocs, l), x, l)
 }
 
-fn save_complex(allocs: [Alloc; 32], l: Loc, x: u32, y: u32) -> [Alloc; 32]
+fn save_complex(allocs: [Slot; MAX_REGS], l: Loc, x: u32, y: u32) -> [Slot; MAX_REGS]
     requires { ⌜ (x < 256 → x < maxRegs) ⌝ }
     requires { ⌜ (y < 256 → y < maxRegs) ⌝ }
     requires { ⌜ l .index < any ⌝ }
-    ensures { λ r. ⌜ r ≡ color.updateAllocs act.SaveComplex l x y allocs ⌝ }
+    ensures { λ r. ⌜ allocsIn r ≡ color.updateAllocs act.SaveComplex l x y (allocsIn allocs) ⌝ }
 {
     let imag = partner(l);
     let cleared = clear(clear(allocs, l), imag);
@@ -96,11 +100,17 @@ fn save_complex(allocs: [Alloc; 32], l: Loc, x: u32, y: u32) -> [Alloc; 32]
 }
 
 // The colours after the action; `x` and `y` are the coloured sources.
-pub fn update_allocs(allocs: [Alloc; 32], action: Action, l: Loc, x: u32, y: u32) -> [Alloc; 32]
+pub fn update_allocs(
+    allocs: [Slot; MAX_REGS],
+    action: Action,
+    l: Loc,
+    x: u32,
+    y: u32,
+) -> [Slot; MAX_REGS]
     requires { ⌜ (x < 256 → x < maxRegs) ⌝ }
     requires { ⌜ (y < 256 → y < maxRegs) ⌝ }
     requires { ⌜ (action ≡ act.SaveComplex → l .index < any) ⌝ }
-    ensures { λ r. ⌜ r ≡ color.updateAllocs action l x y allocs ⌝ }
+    ensures { λ r. ⌜ allocsIn r ≡ color.updateAllocs action l x y (allocsIn allocs) ⌝ }
 {
     match action {
         Action::Save => save(allocs, l, x),

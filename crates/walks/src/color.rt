@@ -6,17 +6,21 @@ use crate::locs::extend;
 use crate::locs::insert;
 use crate::pool::assign;
 use crate::pool::choose;
+use crate::slot::Slot;
+use crate::slot::held_in;
+use mir::config::MAX_REGS;
 use mir::config::Settings;
 use mir::record::record_at;
 use mir::rename::Current;
+use mir::rename::UNSET;
 use mir::rename::count_static;
 use mir::rename::count_statics;
+use mir::rename::current_of;
 use mir::rename::rename;
 use mir::shape::Action;
 use mir::shape::Dests;
 use mir::shape::dests_of;
 use mir::shape::shape_of;
-use passes::alloc::Alloc;
 use passes::alloc::Choice;
 use passes::alloc::Held;
 use passes::symbol::Loc;
@@ -26,7 +30,9 @@ ghost use mathlib.Core.List.{[], _∷_};
 ghost use lib.Dec.{leb};
 ghost use mathlib.Core.Path.{_≡_};
 ghost use lib.ListN.{length, getD};
+ghost use Rattle.mir.specs.Inner.{currentsIn};
 ghost use Rattle.mir.specs.Answers.{over};
+ghost use Rattle.walks.specs.Slots.{allocsIn};
 ghost use Rattle.walks.specs.Walks.{Indexed, Known, slices, destStep, destSteps, Picks, Ready, sourceWords, wantedBy, recordStep, wasFound, readsOf, markedEnds};
 ghost use Rattle.mir.specs.Questions.{fieldsFit, gensFit, partnerFits};
 ghost use Rattle.mir.specs.Records.{isGen, maxRegs, records};
@@ -42,16 +48,16 @@ ghost use Rattle.passes.specs.Machine.{Passing};
 pub const FOUND: u32 = 65_536;
 
 // A register word in colours: the colour of the static that a Gen source holds.
-pub fn deallocate(regs: [Current; 32], w: u32, colours: &[u32]) -> u32
+pub fn deallocate(regs: [u32; MAX_REGS], w: u32, colours: &[u32]) -> u32
     requires { ⌜ (w < 256 → w < maxRegs) ⌝ }
-    requires { ⌜ Known regs (length (now colours)) ⌝ }
-    ensures { λ r. ⌜ r ≡ sourceWord regs (now (colours .entry)) w ⌝ }
+    requires { ⌜ Known (currentsIn regs) (length (now colours)) ⌝ }
+    ensures { λ r. ⌜ r ≡ sourceWord (currentsIn regs) (now (colours .entry)) w ⌝ }
 {
     if 256 <= w {
         return w;
     }
     let r = w as usize;
-    let current = regs[r];
+    let current = current_of(regs[r]);
     let Current::Static(s) = current else {
         return 0;
     };
@@ -60,10 +66,10 @@ pub fn deallocate(regs: [Current; 32], w: u32, colours: &[u32]) -> u32
 }
 
 // Source `j` of a record in colours, or 0 where it has none.
-fn source_at(regs: [Current; 32], rec: [u32; 8], j: usize, colours: &[u32]) -> u32
+fn source_at(regs: [u32; MAX_REGS], rec: [u32; 8], j: usize, colours: &[u32]) -> u32
     requires { ⌜ gensFit maxRegs rec ≡ true ⌝ }
-    requires { ⌜ Known regs (length (now colours)) ⌝ }
-    ensures { λ r. ⌜ r ≡ getD (sourceWords regs (now (colours .entry)) rec) j 0 ⌝ }
+    requires { ⌜ Known (currentsIn regs) (length (now colours)) ⌝ }
+    ensures { λ r. ⌜ r ≡ getD (sourceWords (currentsIn regs) (now (colours .entry)) rec) j 0 ⌝ }
 {
     let s = shape_of(rec[0]);
     if s.srcs <= j {
@@ -74,16 +80,15 @@ fn source_at(regs: [Current; 32], rec: [u32; 8], j: usize, colours: &[u32]) -> u
 }
 
 // The location that a coloured word's colour holds.
-fn held_by(allocs: [Alloc; 32], w: u32) -> Held
+fn held_by(allocs: [Slot; MAX_REGS], w: u32) -> Held
     requires { ⌜ (w < 256 → w < maxRegs) ⌝ }
-    ensures { λ r. ⌜ r ≡ heldBy allocs w ⌝ }
+    ensures { λ r. ⌜ r ≡ heldBy (allocsIn allocs) w ⌝ }
 {
     if 256 <= w {
         return Held::Nothing;
     }
     let c = w as usize;
-    let a = allocs[c];
-    a.loc
+    held_in(allocs[c])
 }
 
 // What x is wanted with; `held` is what the source's colour holds.
@@ -122,7 +127,7 @@ pub fn loc_of(rec: [u32; 8]) -> Loc
 
 // One destination: the static `next`, if it is Gen, takes a colour. The pool is never empty on a list that passes.
 fn color_dest(
-    allocs: [Alloc; 32],
+    allocs: [Slot; MAX_REGS],
     w: u32,
     held: Held,
     n: usize,
@@ -130,14 +135,14 @@ fn color_dest(
     next: usize,
     colours: &mut [u32],
     ends: &mut [u32],
-) -> [Alloc; 32]
+) -> [Slot; MAX_REGS]
     requires { ⌜ n ≤ maxRegs ⌝ }
     requires { ⌜ next < length (now colours) ⌝ }
     requires { ⌜ next < length (now ends) ⌝ }
-    requires { ⌜ (isGen w ≡ true → Picks (color.choose n i held allocs) × (getD (now ends) next 0 < 65536)) ⌝ }
-    ensures allocs { λ r. ⌜ r ≡ destStep n i next w held (slices allocs (now (colours .entry)) (now (ends .entry))) .allocs ⌝ }
-    ensures colours { λ _. ⌜ now (colours .exit) ≡ destStep n i next w held (slices allocs (now (colours .entry)) (now (ends .entry))) .colours ⌝ }
-    ensures ends { λ _. ⌜ now (ends .exit) ≡ destStep n i next w held (slices allocs (now (colours .entry)) (now (ends .entry))) .ends ⌝ }
+    requires { ⌜ (isGen w ≡ true → Picks (color.choose n i held (allocsIn allocs)) × (getD (now ends) next 0 < 65536)) ⌝ }
+    ensures allocs { λ r. ⌜ allocsIn r ≡ destStep n i next w held (slices (allocsIn allocs) (now (colours .entry)) (now (ends .entry))) .allocs ⌝ }
+    ensures colours { λ _. ⌜ now (colours .exit) ≡ destStep n i next w held (slices (allocsIn allocs) (now (colours .entry)) (now (ends .entry))) .colours ⌝ }
+    ensures ends { λ _. ⌜ now (ends .exit) ≡ destStep n i next w held (slices (allocsIn allocs) (now (colours .entry)) (now (ends .entry))) .ends ⌝ }
 {
     if 256 <= w {
         return allocs;
@@ -160,7 +165,7 @@ fn color_dest(
 
 // The destinations of a record, x before y.
 fn color_dests(
-    allocs: [Alloc; 32],
+    allocs: [Slot; MAX_REGS],
     rec: [u32; 8],
     hx: Held,
     hy: Held,
@@ -169,14 +174,14 @@ fn color_dests(
     next: usize,
     colours: &mut [u32],
     ends: &mut [u32],
-) -> [Alloc; 32]
+) -> [Slot; MAX_REGS]
     requires { ⌜ n ≤ maxRegs ⌝ }
     requires { ⌜ next + 2 ≤ length (now colours) ⌝ }
     requires { ⌜ next + 2 ≤ length (now ends) ⌝ }
-    requires { ⌜ Ready n i next (wanted (dests rec) hx hy) (slices allocs (now colours) (now ends)) ⌝ }
-    ensures allocs { λ r. ⌜ r ≡ destSteps n i next (wanted (dests rec) hx hy) (slices allocs (now (colours .entry)) (now (ends .entry))) .allocs ⌝ }
-    ensures colours { λ _. ⌜ now (colours .exit) ≡ destSteps n i next (wanted (dests rec) hx hy) (slices allocs (now (colours .entry)) (now (ends .entry))) .colours ⌝ }
-    ensures ends { λ _. ⌜ now (ends .exit) ≡ destSteps n i next (wanted (dests rec) hx hy) (slices allocs (now (colours .entry)) (now (ends .entry))) .ends ⌝ }
+    requires { ⌜ Ready n i next (wanted (dests rec) hx hy) (slices (allocsIn allocs) (now colours) (now ends)) ⌝ }
+    ensures allocs { λ r. ⌜ allocsIn r ≡ destSteps n i next (wanted (dests rec) hx hy) (slices (allocsIn allocs) (now (colours .entry)) (now (ends .entry))) .allocs ⌝ }
+    ensures colours { λ _. ⌜ now (colours .exit) ≡ destSteps n i next (wanted (dests rec) hx hy) (slices (allocsIn allocs) (now (colours .entry)) (now (ends .entry))) .colours ⌝ }
+    ensures ends { λ _. ⌜ now (ends .exit) ≡ destSteps n i next (wanted (dests rec) hx hy) (slices (allocsIn allocs) (now (colours .entry)) (now (ends .entry))) .ends ⌝ }
 {
     match dests_of(rec) {
         Dests::Nothing => allocs,
@@ -191,26 +196,26 @@ fn color_dests(
 
 // One record.
 fn color_record(
-    allocs: [Alloc; 32],
+    allocs: [Slot; MAX_REGS],
     rec: [u32; 8],
-    regs: [Current; 32],
+    regs: [u32; MAX_REGS],
     n: usize,
     i: u32,
     next: usize,
     colours: &mut [u32],
     ends: &mut [u32],
-) -> [Alloc; 32]
+) -> [Slot; MAX_REGS]
     requires { ⌜ gensFit maxRegs rec ≡ true ⌝ }
     requires { ⌜ partnerFits rec ≡ true ⌝ }
-    requires { ⌜ Known regs (length (now colours)) ⌝ }
-    requires { ⌜ ((j : ℕ) → getD (sourceWords regs (now colours) rec) j 0 < 256 → getD (sourceWords regs (now colours) rec) j 0 < maxRegs) ⌝ }
+    requires { ⌜ Known (currentsIn regs) (length (now colours)) ⌝ }
+    requires { ⌜ ((j : ℕ) → getD (sourceWords (currentsIn regs) (now colours) rec) j 0 < 256 → getD (sourceWords (currentsIn regs) (now colours) rec) j 0 < maxRegs) ⌝ }
     requires { ⌜ n ≤ maxRegs ⌝ }
     requires { ⌜ next + 2 ≤ length (now colours) ⌝ }
     requires { ⌜ next + 2 ≤ length (now ends) ⌝ }
-    requires { ⌜ Ready n i next (wantedBy regs rec (slices allocs (now colours) (now ends))) (slices allocs (now colours) (now ends)) ⌝ }
-    ensures allocs { λ r. ⌜ r ≡ recordStep n i next regs rec (slices allocs (now (colours .entry)) (now (ends .entry))) .allocs ⌝ }
-    ensures colours { λ _. ⌜ now (colours .exit) ≡ recordStep n i next regs rec (slices allocs (now (colours .entry)) (now (ends .entry))) .colours ⌝ }
-    ensures ends { λ _. ⌜ now (ends .exit) ≡ recordStep n i next regs rec (slices allocs (now (colours .entry)) (now (ends .entry))) .ends ⌝ }
+    requires { ⌜ Ready n i next (wantedBy (currentsIn regs) rec (slices (allocsIn allocs) (now colours) (now ends))) (slices (allocsIn allocs) (now colours) (now ends)) ⌝ }
+    ensures allocs { λ r. ⌜ allocsIn r ≡ recordStep n i next (currentsIn regs) rec (slices (allocsIn allocs) (now (colours .entry)) (now (ends .entry))) .allocs ⌝ }
+    ensures colours { λ _. ⌜ now (colours .exit) ≡ recordStep n i next (currentsIn regs) rec (slices (allocsIn allocs) (now (colours .entry)) (now (ends .entry))) .colours ⌝ }
+    ensures ends { λ _. ⌜ now (ends .exit) ≡ recordStep n i next (currentsIn regs) rec (slices (allocsIn allocs) (now (colours .entry)) (now (ends .entry))) .ends ⌝ }
 {
     let s = shape_of(rec[0]);
     let action = s.action;
@@ -343,7 +348,7 @@ pub fn color(
 {
     let n = settings.count_regs as usize;
     let count = list.len() / 8;
-    let mut regs = [Current::Unset; 32];
+    let mut regs = [UNSET; MAX_REGS];
     let mut statics = 0;
     let mut allocs = reset_allocs();
     let mut members = 0;

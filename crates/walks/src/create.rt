@@ -1,8 +1,11 @@
 // The second walk (document 01, section 2): each static's end.
+use mir::config::MAX_REGS;
 use mir::record::record_at;
 use mir::rename::Current;
+use mir::rename::UNSET;
 use mir::rename::count_static;
 use mir::rename::count_statics;
+use mir::rename::current_of;
 use mir::rename::rename;
 use mir::shape::Dests;
 use mir::shape::dests_of;
@@ -11,6 +14,7 @@ ghost use Prim.Native.Nat.{_+_, _*_, _<_, _≤_};
 ghost use mathlib.Core.Bool.{true, cond};
 ghost use mathlib.Core.Path.{_≡_};
 ghost use lib.ListN.{length, set, take, drop};
+ghost use Rattle.mir.specs.Inner.{currentsIn};
 ghost use Rattle.mir.specs.Answers.{over};
 ghost use Rattle.walks.specs.Walks.{Known, Passes, created};
 ghost use Rattle.mir.specs.Folds.{all};
@@ -21,16 +25,16 @@ ghost use Rattle.passes.specs.Create.{consumed, endsOf};
 ghost use Rattle.passes.specs.Create as create;
 
 // A source is read at instruction `i`: the static that it holds ends there, so far.
-fn consume(regs: [Current; 32], w: u32, i: u32, ends: &mut [u32])
+fn consume(regs: [u32; MAX_REGS], w: u32, i: u32, ends: &mut [u32])
     requires { ⌜ (w < 256 → w < maxRegs) ⌝ }
-    requires { ⌜ Known regs (length (now ends)) ⌝ }
-    ensures { λ _. ⌜ now (ends .exit) ≡ create.consume regs i w (now (ends .entry)) ⌝ }
+    requires { ⌜ Known (currentsIn regs) (length (now ends)) ⌝ }
+    ensures { λ _. ⌜ now (ends .exit) ≡ create.consume (currentsIn regs) i w (now (ends .entry)) ⌝ }
 {
     if 256 <= w {
         return;
     }
     let r = w as usize;
-    let current = regs[r];
+    let current = current_of(regs[r]);
     let Current::Static(s) = current else {
         return;
     };
@@ -40,7 +44,7 @@ fn consume(regs: [Current; 32], w: u32, i: u32, ends: &mut [u32])
 
 // The `count` source words from `from` on are read.
 fn consume_words(
-    regs: [Current; 32],
+    regs: [u32; MAX_REGS],
     rec: [u32; 8],
     from: usize,
     count: usize,
@@ -49,8 +53,8 @@ fn consume_words(
 )
     requires { ⌜ from + count ≤ 8 ⌝ }
     requires { ⌜ all (genFits maxRegs) (take count (drop from rec)) ≡ true ⌝ }
-    requires { ⌜ Known regs (length (now ends)) ⌝ }
-    ensures { λ _. ⌜ now (ends .exit) ≡ consumed regs i (take count (drop from rec)) (now (ends .entry)) ⌝ }
+    requires { ⌜ Known (currentsIn regs) (length (now ends)) ⌝ }
+    ensures { λ _. ⌜ now (ends .exit) ≡ consumed (currentsIn regs) i (take count (drop from rec)) (now (ends .entry)) ⌝ }
 {
     let mut j = 0;
     while j < count {
@@ -60,10 +64,10 @@ fn consume_words(
 }
 
 // A record's sources are read.
-fn consume_sources(regs: [Current; 32], rec: [u32; 8], i: u32, ends: &mut [u32])
+fn consume_sources(regs: [u32; MAX_REGS], rec: [u32; 8], i: u32, ends: &mut [u32])
     requires { ⌜ gensFit maxRegs rec ≡ true ⌝ }
-    requires { ⌜ Known regs (length (now ends)) ⌝ }
-    ensures { λ _. ⌜ now (ends .exit) ≡ consumed regs i (sources rec) (now (ends .entry)) ⌝ }
+    requires { ⌜ Known (currentsIn regs) (length (now ends)) ⌝ }
+    ensures { λ _. ⌜ now (ends .exit) ≡ consumed (currentsIn regs) i (sources rec) (now (ends .entry)) ⌝ }
 {
     let s = shape_of(rec[0]);
     let from = s.regs + s.dsts;
@@ -108,7 +112,7 @@ pub fn create(list: &[u32], ends: &mut [u32])
     ensures { λ _. ⌜ now (ends .exit) ≡ over (endsOf (now (list .entry))) (now (ends .entry)) ⌝ }
 {
     let n = list.len() / 8;
-    let mut regs = [Current::Unset; 32];
+    let mut regs = [UNSET; MAX_REGS];
     let mut statics = 0;
     let mut i = 0;
     while i < n {

@@ -14,6 +14,7 @@ pub mod contract;
 pub mod create;
 pub mod locs;
 pub mod pool;
+pub mod slot;
 
 use crate::color::Sizes;
 use crate::contract::Tally;

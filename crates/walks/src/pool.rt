@@ -1,5 +1,7 @@
 // The colours and the choices among them (document 01, section 3).
-use passes::alloc::Alloc;
+use crate::slot::Slot;
+use crate::slot::slot_of;
+use mir::config::MAX_REGS;
 use passes::alloc::Choice;
 use passes::alloc::Held;
 use passes::symbol::Loc;
@@ -11,6 +13,7 @@ ghost use Rattle.mir.specs.Records.{maxRegs};
 ghost use Rattle.passes.specs.Color.{sameLoc, isNothing, colourAt, isFree, holdsAt, firstBelow, freeOr, foundOr, plainChoice};
 ghost use Rattle.walks.specs.Pools.{placed};
 ghost use Rattle.walks.specs.Pools as pools;
+ghost use Rattle.walks.specs.Slots.{heldIn, allocIn, allocsIn};
 ghost use Rattle.passes.specs.Color as color;
 ghost use Rattle.passes.specs.declared.alloc.Choice.the-variants.{Empty};
 
@@ -38,45 +41,37 @@ pub fn same_loc(l: Loc, m: Loc) -> bool
 }
 
 // Whether a colour is free and holds no location.
-fn is_free_bare(a: Alloc, i: u32) -> bool
-    ensures { λ r. ⌜ r ≡ leb (a .life) i && isNothing (a .loc) ⌝ }
+fn is_free_bare(s: Slot, i: u32) -> bool
+    ensures { λ r. ⌜ r ≡ leb (s .life) i && isNothing (heldIn s) ⌝ }
 {
-    if i < a.life {
+    if i < s.life {
         return false;
     }
-    let held = a.loc;
-    match held {
-        Held::Nothing => true,
-        Held::At(_) => false,
-    }
+    !s.full
 }
 
 // Whether a colour holds the location.
-pub fn holds(a: Alloc, l: Loc) -> bool
-    ensures { λ r. ⌜ r ≡ color.holds (a .loc) l ⌝ }
+pub fn holds(s: Slot, l: Loc) -> bool
+    ensures { λ r. ⌜ r ≡ color.holds (heldIn s) l ⌝ }
 {
-    let held = a.loc;
-    match held {
-        Held::Nothing => false,
-        Held::At(m) => same_loc(m, l),
-    }
+    if s.full { same_loc(s.loc, l) } else { false }
 }
 
 // Whether a colour is what is looked for at instruction `i`.
-fn meets(criterion: Criterion, a: Alloc, i: u32) -> bool
-    ensures { λ r. ⌜ r ≡ pools.meets criterion i a ⌝ }
+fn meets(criterion: Criterion, s: Slot, i: u32) -> bool
+    ensures { λ r. ⌜ r ≡ pools.meets criterion i (allocIn s) ⌝ }
 {
     match criterion {
-        Criterion::Holder(l) => holds(a, l),
-        Criterion::Free => a.life <= i,
-        Criterion::Bare => is_free_bare(a, i),
+        Criterion::Holder(l) => holds(s, l),
+        Criterion::Free => s.life <= i,
+        Criterion::Bare => is_free_bare(s, i),
     }
 }
 
 // The first of `n` colours that is what is looked for.
-fn first(allocs: [Alloc; 32], n: usize, i: u32, criterion: Criterion) -> Position
+fn first(allocs: [Slot; MAX_REGS], n: usize, i: u32, criterion: Criterion) -> Position
     requires { ⌜ n ≤ maxRegs ⌝ }
-    ensures { λ r. ⌜ placed r ≡ firstBelow (λ c. pools.meets criterion i (colourAt allocs c)) n ⌝ }
+    ensures { λ r. ⌜ placed r ≡ firstBelow (λ c. pools.meets criterion i (colourAt (allocsIn allocs) c)) n ⌝ }
 {
     let mut c = 0;
     while c < n {
@@ -89,9 +84,9 @@ fn first(allocs: [Alloc; 32], n: usize, i: u32, criterion: Criterion) -> Positio
 }
 
 // The first free colour, if the pool has one.
-fn allocate_free(allocs: [Alloc; 32], n: usize, i: u32) -> Choice
+fn allocate_free(allocs: [Slot; MAX_REGS], n: usize, i: u32) -> Choice
     requires { ⌜ n ≤ maxRegs ⌝ }
-    ensures { λ r. ⌜ r ≡ freeOr (firstBelow (isFree i allocs) n) Empty ⌝ }
+    ensures { λ r. ⌜ r ≡ freeOr (firstBelow (isFree i (allocsIn allocs)) n) Empty ⌝ }
 {
     let free = first(allocs, n, i, Criterion::Free);
     let Position::At(c) = free else {
@@ -101,9 +96,9 @@ fn allocate_free(allocs: [Alloc; 32], n: usize, i: u32) -> Choice
 }
 
 // The plain choice at instruction `i` among `n` colours.
-fn allocate(allocs: [Alloc; 32], n: usize, i: u32) -> Choice
+fn allocate(allocs: [Slot; MAX_REGS], n: usize, i: u32) -> Choice
     requires { ⌜ n ≤ maxRegs ⌝ }
-    ensures { λ r. ⌜ r ≡ plainChoice n i allocs ⌝ }
+    ensures { λ r. ⌜ r ≡ plainChoice n i (allocsIn allocs) ⌝ }
 {
     let bare = first(allocs, n, i, Criterion::Bare);
     let Position::At(c) = bare else {
@@ -113,9 +108,9 @@ fn allocate(allocs: [Alloc; 32], n: usize, i: u32) -> Choice
 }
 
 // The choice for a location.
-fn allocate_loc(allocs: [Alloc; 32], n: usize, i: u32, l: Loc) -> Choice
+fn allocate_loc(allocs: [Slot; MAX_REGS], n: usize, i: u32, l: Loc) -> Choice
     requires { ⌜ n ≤ maxRegs ⌝ }
-    ensures { λ r. ⌜ r ≡ foundOr (firstBelow (holdsAt allocs l) n) (plainChoice n i allocs) ⌝ }
+    ensures { λ r. ⌜ r ≡ foundOr (firstBelow (holdsAt (allocsIn allocs) l) n) (plainChoice n i (allocsIn allocs)) ⌝ }
 {
     let holder = first(allocs, n, i, Criterion::Holder(l));
     let Position::At(c) = holder else {
@@ -125,9 +120,9 @@ fn allocate_loc(allocs: [Alloc; 32], n: usize, i: u32, l: Loc) -> Choice
 }
 
 // The choice for what a destination is wanted with.
-pub fn choose(allocs: [Alloc; 32], n: usize, i: u32, held: Held) -> Choice
+pub fn choose(allocs: [Slot; MAX_REGS], n: usize, i: u32, held: Held) -> Choice
     requires { ⌜ n ≤ maxRegs ⌝ }
-    ensures { λ r. ⌜ r ≡ color.choose n i held allocs ⌝ }
+    ensures { λ r. ⌜ r ≡ color.choose n i held (allocsIn allocs) ⌝ }
 {
     match held {
         Held::Nothing => allocate(allocs, n, i),
@@ -142,16 +137,13 @@ fn larger(a: u32, b: u32) -> u32
 }
 
 // Gives colour `c` to a static that ends at `end`.
-pub fn assign(allocs: [Alloc; 32], c: u32, end: u32, held: Held) -> [Alloc; 32]
+pub fn assign(allocs: [Slot; MAX_REGS], c: u32, end: u32, held: Held) -> [Slot; MAX_REGS]
     requires { ⌜ c < maxRegs ⌝ }
-    ensures { λ r. ⌜ r ≡ color.assign allocs c end held ⌝ }
+    ensures { λ r. ⌜ allocsIn r ≡ color.assign (allocsIn allocs) c end held ⌝ }
 {
     let mut out = allocs;
     let k = c as usize;
     let old = out[k];
-    out[k] = Alloc {
-        life: larger(old.life, end),
-        loc: held,
-    };
+    out[k] = slot_of(larger(old.life, end), held);
     out
 }

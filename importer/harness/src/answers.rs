@@ -1,20 +1,21 @@
 //! The words that the C entries are to answer: what a copy of the original leaves, or the refusal
-//! of the first question that is answered no.
+//! of the first question that is answered no. A mask of used registers is stated a second time, and
+//! is the original's wherever that can tell it.
 //!
 //! Bits 32 to 55 hold the question's number, 0 for none. With a number, bits 0 to 31 hold the
 //! record's index.
 
 use std::collections::HashMap;
 
-use oracle::Reg;
+use oracle::{Mir, Reg};
 
 use crate::file;
 use crate::lent::{has_room, Lent, PARTS};
-use crate::lists::List;
+use crate::lists::{List, USED_REGS};
 use crate::questions::{refusal, refusal_beside, Refusal};
 use crate::reduced::Reduced;
-use crate::run;
 use crate::tally::By;
+use crate::{run, used};
 
 /// The place of a label that no Label has.
 pub const ABSENT: u32 = 4_294_967_295;
@@ -45,13 +46,11 @@ pub fn refused((number, index): Refusal) -> u64 {
     (u64::from(number) << 32) | index as u64
 }
 
-/// What the original says of a list that passes.
+/// What is said of a list that passes.
 struct Said {
     /// Register r has bit r.
-    mask: u32,
-    /// How many registers there are, by the original's own list of them.
-    count: u32,
-    /// The last index of each label.
+    mask: u64,
+    /// The last index of each label, by the original.
     labels: HashMap<String, usize>,
 }
 
@@ -59,18 +58,28 @@ impl Said {
     fn of(list: &List) -> Said {
         let mut mir = run::mir(list).expect("a list that passes has a meaning");
         mir.populate_labels();
-        let used = mir.used_registers();
-        let mask = used.iter().fold(0, |mask, reg| match reg {
-            Reg::Gen(number) => mask | (1u32 << number),
-            _ => panic!("{reg:?} is no Gen register"),
-        });
-        Said { mask, count: used.len() as u32, labels: mir.labels }
+        let mask = used::mask(list);
+        if list.settings.count_regs <= USED_REGS {
+            assert_eq!(mask as u32, original_mask(&mir), "{list:?}");
+        }
+        Said { mask, labels: mir.labels }
     }
 
     /// The index of the last Label with the number, or ABSENT.
     fn place(&self, label: u32) -> u32 {
         self.labels.get(&label.to_string()).map_or(ABSENT, |index| *index as u32)
     }
+}
+
+/// The mask of the original's list of used registers, which names each of them once.
+fn original_mask(mir: &Mir) -> u32 {
+    let used = mir.used_registers();
+    let mask: u32 = used.iter().fold(0, |mask, reg| match reg {
+        Reg::Gen(number) => mask | (1 << number),
+        _ => panic!("{reg:?} is no Gen register"),
+    });
+    assert_eq!(mask.count_ones() as usize, used.len(), "{used:?}");
+    mask
 }
 
 /// What `survey` is to answer, whatever label it is asked for: the original runs only once.
@@ -99,19 +108,25 @@ impl Survey {
         match &self.with_room {
             Ok(said) => {
                 let place = said.place(label);
-                let lent = vec![said.mask, 0, said.count, place];
+                let mask = said.mask;
+                let lent = vec![mask as u32, (mask >> 32) as u32, mask.count_ones(), place];
                 Answer { word: u64::from(place), lent, by: By::Original }
             }
             Err(no) => Answer::refused(*no),
         }
     }
 
-    /// The registers alone, in one word: the mask in bits 0 to 31, how many registers it names in
-    /// bits 56 to 63; or a refusal.
+    /// The mask, or a refusal.
+    pub fn mask(&self) -> Result<u64, Refusal> {
+        self.with_room.as_ref().map(|said| said.mask).map_err(|no| *no)
+    }
+
+    /// The registers alone, in one word: the mask's low word in bits 0 to 31, how many registers the
+    /// whole mask names in bits 56 to 63; or a refusal.
     pub fn registers(&self) -> u64 {
-        match &self.with_room {
-            Ok(said) => (u64::from(said.count) << 56) | u64::from(said.mask),
-            Err(no) => refused(*no),
+        match self.mask() {
+            Ok(mask) => (u64::from(mask.count_ones()) << 56) | (mask & 0xffff_ffff),
+            Err(no) => refused(no),
         }
     }
 }

@@ -7,15 +7,16 @@
 
 use crate::damage::{Fault, OF_RECORD};
 use crate::file::{encode, record_count, with_word, MOST, PAIR_COUNT};
-use crate::lists::{any_list, list, List, Profile};
+use crate::limits::MOST_REGS;
+use crate::lists::{all_live_list, list, narrow_list, List, Profile, USED_REGS};
 use crate::random::Random;
 use crate::record::WORDS;
 use crate::roles::KINDS;
 use crate::settings::{set_flag, Settings};
 use crate::{answers, limits, run, stored_lists, worked_examples};
 
-const WIDE: Settings =
-    Settings { count_regs: 32, args: 0, complex: false, arm: false, compress: false };
+const NARROW: Settings =
+    Settings { count_regs: USED_REGS, args: 0, complex: false, arm: false, compress: false };
 
 /// What `reduce` prints for a file: a record per line and what was dropped, or the refusal.
 pub fn printed(file: &[u8]) -> String {
@@ -61,7 +62,7 @@ fn add_bad_forms(random: &mut Random, files: &mut Vec<Vec<u8>>) {
     let table = vec![0; (MOST + 1) * 2];
     files.push(encode(&List { table, ..list.clone() }, 1));
     // ahead of question 1
-    let settings = Settings { count_regs: 33, ..list.settings };
+    let settings = Settings { count_regs: MOST_REGS + 1, ..list.settings };
     let high = encode(&List { settings, ..list }, 1);
     files.push(high[..high.len() - 1].to_vec());
 }
@@ -70,7 +71,7 @@ fn add_bad_forms(random: &mut Random, files: &mut Vec<Vec<u8>>) {
 fn add_bad_lists(random: &mut Random, files: &mut Vec<Vec<u8>>) {
     for fault in [Fault::CountRegs, Fault::Args].into_iter().chain(OF_RECORD) {
         for start in [0, 10] {
-            let mut list = list(random, &Profile { settings: WIDE, ..Profile::plain(40) });
+            let mut list = list(random, &Profile { settings: NARROW, ..Profile::plain(40) });
             let fits = |at: &usize| fault.put(random, &mut list, *at);
             (start..40).find(fits).expect("a record that the fault fits");
             files.push(encode(&list, 1));
@@ -79,15 +80,15 @@ fn add_bad_lists(random: &mut Random, files: &mut Vec<Vec<u8>>) {
 }
 
 /// Lists that pass: known ones, random ones, and the longest with the largest table; then that one
-/// with a last record of no kind, and three more known ones.
+/// with a last record of no kind, three more known ones, and four with many registers live.
 fn add_longer(random: &mut Random, files: &mut Vec<Vec<u8>>) {
     let mut lists: Vec<List> = stored_lists::twelve().map(|named| named.list).into();
-    lists.push(limits::largest_fields(WIDE));
+    lists.push(limits::largest_fields(Settings { count_regs: MOST_REGS, ..NARROW }));
     for _ in 0..12 {
-        lists.push(any_list(random, 40));
+        lists.push(narrow_list(random, 40));
     }
     for complex in [false, true] {
-        let settings = Settings { count_regs: 5, args: 3, complex, ..WIDE };
+        let settings = Settings { count_regs: 5, args: 3, complex, ..NARROW };
         lists.push(list(random, &Profile { settings, pairs: 40, ..Profile::plain(80) }));
     }
     // many moves, loads and saves over many locations, so that many of them are dropped
@@ -100,6 +101,9 @@ fn add_longer(random: &mut Random, files: &mut Vec<Vec<u8>>) {
     lists.push(longest);
     lists.extend(stored_lists::two_part().map(|named| named.list));
     files.extend(lists.iter().map(|list| encode(list, set_flag(random))));
+    let mut live = [33, 63, 64].map(|count_regs| all_live_list(random, count_regs, 4)).to_vec();
+    live.push(stored_lists::sixty_four().list);
+    files.extend(live.iter().map(|list| encode(list, set_flag(random))));
 }
 
 /// Each stored file's place among the crates, and its bytes.

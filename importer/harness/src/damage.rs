@@ -1,5 +1,6 @@
 //! Damaged copies of passing lists.
 
+use crate::limits::MOST_REGS;
 use crate::lists::{statics_after, List};
 use crate::random::Random;
 use crate::record::WORDS;
@@ -75,7 +76,7 @@ impl Fault {
 
     fn put_in_list(self, random: &mut Random, list: &mut List) {
         match self {
-            CountRegs => list.settings.count_regs = random.pick(&[33, 34, 64, 256, u32::MAX]),
+            CountRegs => list.settings.count_regs = random.pick(&[65, 66, 128, 256, u32::MAX]),
             Args => list.settings.args = random.pick(&[65_536, 65_537, 1 << 31, u32::MAX]),
             PartialRecord => {
                 let more = random.between(1, 7) as usize;
@@ -162,7 +163,7 @@ fn pair_space(random: &mut Random, list: &mut List, at: usize) -> bool {
 /// A source that is a Gen without a static.
 fn no_static(random: &mut Random, list: &mut List, at: usize) -> bool {
     let held = (0..at).fold(0, |held, before| statics_after(list.record(before), held));
-    let count_regs = list.settings.count_regs.min(32);
+    let count_regs = list.settings.count_regs.min(MOST_REGS);
     let free: Vec<u32> = (0..count_regs).filter(|register| held & (1 << register) == 0).collect();
     if free.is_empty() {
         return false;

@@ -21,6 +21,7 @@ pub mod short;
 pub mod stored_lists;
 pub mod tally;
 pub mod theorem;
+pub mod used;
 pub mod vectors;
 pub mod worked_examples;
 

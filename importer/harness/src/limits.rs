@@ -8,11 +8,12 @@ use crate::settings::Settings;
 
 pub const MOST_RECORDS: usize = 65_536;
 pub const MOST_PAIRS: usize = 32_768;
+pub const MOST_REGS: u32 = 64;
 
 /// Lists that are long, or lie at an end of some range, each with its name.
 pub fn lists() -> Vec<(&'static str, List)> {
     let mut random = Random::new(7);
-    let wide = Settings { count_regs: 32, ..Settings::default() };
+    let wide = Settings { count_regs: MOST_REGS, ..Settings::default() };
     let far = Settings { args: 65_535, complex: true, ..wide };
     let long = Profile { settings: wide, records: MOST_RECORDS, ..Profile::plain(0) };
     let both = Profile { pairs: MOST_PAIRS, ..long.clone() };

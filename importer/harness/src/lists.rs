@@ -1,5 +1,7 @@
 //! Random lists that pass every question.
 
+use crate::kinds::{load, save, MEM, PARAM};
+use crate::limits::MOST_REGS;
 use crate::random::Random;
 use crate::record::{Record, WORDS};
 use crate::roles::{role, Role, KINDS, SCALAR, STRAIGHT};
@@ -32,6 +34,9 @@ impl List {
         labels.map(|record| record[1]).collect()
     }
 }
+
+/// The most registers of a list whose `used_registers` the original can tell: its mask has 32 bits.
+pub const USED_REGS: u32 = 32;
 
 /// The parameters of a random list.
 #[derive(Clone, Debug)]
@@ -71,10 +76,15 @@ impl Profile {
 
     /// Any profile, with at most the given number of records.
     pub fn random(random: &mut Random, most_records: u32) -> Profile {
+        Profile::within(random, most_records, MOST_REGS)
+    }
+
+    /// Any profile, with at most so many records and registers.
+    fn within(random: &mut Random, most_records: u32, most_regs: u32) -> Profile {
         let most = if random.percent(80) { most_records.min(24) } else { most_records };
         let pairs = if random.percent(30) { 0 } else { random.index(12) };
         Profile {
-            settings: random_settings(random),
+            settings: random_settings(random, most_regs),
             records: random.between(0, most) as usize,
             pairs,
             spaces: 3,
@@ -96,7 +106,7 @@ impl Profile {
         [10, 12, 15, 17].iter().for_each(|kind| weights[*kind] = random.below(2));
         let count_regs = random.pick(&[1, 2, 2, 3, 3, 4, 5, 8]);
         Profile {
-            settings: Settings { count_regs, ..random_settings(random) },
+            settings: Settings { count_regs, ..random_settings(random, MOST_REGS) },
             spaces: random.pick(&[1, 1, 2, 3]),
             cells: random.between(2, 5),
             named: random.pick(&[0, 0, 5, 20]),
@@ -108,12 +118,12 @@ impl Profile {
 
     /// Half of the records are labels, of few numbers: most of these come more than once, and some
     /// are missing.
-    pub fn labelled(random: &mut Random, records: usize) -> Profile {
+    pub fn labelled(random: &mut Random, records: usize, most_regs: u32) -> Profile {
         let mut weights = [1; KINDS];
         [16, 17].iter().for_each(|kind| weights[*kind] = 3);
         weights[15] = weights.iter().sum();
         Profile {
-            settings: random_settings(random),
+            settings: random_settings(random, most_regs),
             extreme: random.pick(&[0, 0, 2, 20]),
             weights,
             ..Profile::plain(records)
@@ -143,8 +153,9 @@ impl Profile {
     }
 }
 
-fn random_settings(random: &mut Random) -> Settings {
-    let count_regs = if random.percent(70) { random.between(0, 6) } else { random.between(0, 32) };
+fn random_settings(random: &mut Random, most_regs: u32) -> Settings {
+    let most = if random.percent(70) { 6 } else { most_regs };
+    let count_regs = random.between(0, most);
     let small = random.between(0, 5);
     Settings {
         count_regs,
@@ -182,19 +193,47 @@ pub fn list(random: &mut Random, profile: &Profile) -> List {
         let (space, index) = generator.cell();
         table.extend([space, index]);
     }
-    let mut words = Vec::with_capacity(profile.records * WORDS);
-    for _ in 0..profile.records {
-        let kind = generator.kind();
-        words.extend(generator.record(kind));
-    }
+    let words = generator.records();
     List { settings: profile.settings, table, words }
 }
 
 /// A list of any profile, one in four of scalar straight-line kinds.
 pub fn any_list(random: &mut Random, most_records: u32) -> List {
     let profile = Profile::random(random, most_records);
+    any_list_of(random, profile)
+}
+
+/// The same, of no more registers than the original's `used_registers` can tell.
+pub fn narrow_list(random: &mut Random, most_records: u32) -> List {
+    let profile = Profile::within(random, most_records, USED_REGS);
+    any_list_of(random, profile)
+}
+
+fn any_list_of(random: &mut Random, profile: Profile) -> List {
     let profile = if random.percent(25) { profile.scalar() } else { profile };
     list(random, &profile)
+}
+
+/// A list with every one of its registers live at once. Each is loaded from a cell of its own, then
+/// come up to `most` scalar records, and in the end each is saved.
+pub fn all_live_list(random: &mut Random, count_regs: u32, most: u32) -> List {
+    let mut between = Profile::within(random, most, count_regs).scalar();
+    between.settings.count_regs = count_regs;
+    let mut order: Vec<u32> = (0..count_regs).collect();
+    let has_static = order.iter().fold(0, |statics, register| statics | 1u64 << register);
+    shuffle(random, &mut order);
+    let loads = order.iter().flat_map(|register| load(*register, MEM, 100 + register));
+    let mut words: Vec<u32> = loads.collect();
+    words.extend(Generator { random, profile: &between, has_static }.records());
+    shuffle(random, &mut order);
+    words.extend(order.iter().flat_map(|register| save(*register, PARAM, *register)));
+    List { settings: between.settings, table: Vec::new(), words }
+}
+
+fn shuffle(random: &mut Random, order: &mut [u32]) {
+    for at in 1..order.len() {
+        order.swap(at, random.index(at + 1));
+    }
 }
 
 /// A list of mostly two-part records.
@@ -206,7 +245,7 @@ pub fn two_part_list(random: &mut Random, most_records: u32) -> List {
 /// A list of many labels with few numbers.
 pub fn labelled_list(random: &mut Random, most_records: u32) -> List {
     let records = random.between(1, most_records) as usize;
-    let profile = Profile::labelled(random, records);
+    let profile = Profile::labelled(random, records, MOST_REGS);
     list(random, &profile)
 }
 
@@ -214,10 +253,19 @@ struct Generator<'a> {
     random: &'a mut Random,
     profile: &'a Profile,
     /// One bit for each Gen register that has a static.
-    has_static: u32,
+    has_static: u64,
 }
 
 impl Generator<'_> {
+    fn records(&mut self) -> Vec<u32> {
+        let mut words = Vec::with_capacity(self.profile.records * WORDS);
+        for _ in 0..self.profile.records {
+            let kind = self.kind();
+            words.extend(self.record(kind));
+        }
+        words
+    }
+
     fn kind(&mut self) -> u32 {
         let mut left = self.random.below(self.profile.weights.iter().sum());
         for (kind, weight) in self.profile.weights.iter().enumerate() {
@@ -318,11 +366,11 @@ impl Generator<'_> {
 }
 
 /// The Gen registers that have a static after a record, given those that had one before it.
-pub fn statics_after(record: &[u32], before: u32) -> u32 {
+pub fn statics_after(record: &[u32], before: u64) -> u64 {
     let forgets = record[0] == 12 || record[0] == 15;
     let mut after = if forgets { 0 } else { before };
     for word in 1..WORDS {
-        if role(record[0], word) == Role::Destination && record[word] < 32 {
+        if role(record[0], word) == Role::Destination && record[word] < MOST_REGS {
             after |= 1 << record[word];
         }
     }

@@ -5,8 +5,9 @@
 //! in words and its words; the list's length in words and its words; the answer's low and high
 //! word. The operations are
 //!
-//! - 1, the registers of `survey` alone: the answer is their mask in bits 0 to 31 and how many they
-//!   are in bits 56 to 63, or the refusal;
+//! - 1, the registers of `survey` alone, of a list of at most 32: the answer is the low word of
+//!   their mask in bits 0 to 31 and how many it names in bits 56 to 63, or the refusal. The high
+//!   word has every bit with `compress`, and else none;
 //! - 2, the label's place of `survey` alone: the answer is the place, or the refusal;
 //! - 3, `optimize`, and 4, `survey`: the answer is the entry's, and the lent slices follow, those of
 //!   `optimize` being output, colours, ends, set and counts, and that of `survey` its parts.
@@ -14,13 +15,15 @@
 //! Of the lent slices first come their lengths in words. Then comes for each the number of words
 //! that it starts with in the end, and these words; all others are FILL, as they were. With
 //! operations 1 and 2 there is room for the parts. Each answer is the questions' or the original's,
-//! of `optimize` the amended copy's; none is the verified code's.
+//! of `optimize` the amended copy's, and a mask of more than 32 registers that of `used`; none is
+//! the verified code's.
 
 use crate::damage::damaged;
 use crate::damage::Fault::{CountRegs, Kind, OddTable, PartialRecord};
 use crate::file::bytes;
 use crate::lent::{room, Lent, PARTS};
-use crate::lists::{any_list, list, List, Profile};
+use crate::limits::MOST_REGS;
+use crate::lists::{all_live_list, list, narrow_list, List, Profile, USED_REGS};
 use crate::random::Random;
 use crate::settings::{set_flag, Settings};
 use crate::{answers, limits, stored_lists, worked_examples};
@@ -187,6 +190,11 @@ impl Builder {
         };
         self.add_survey(list, label);
     }
+
+    fn add_reduced_and_surveyed(&mut self, list: List) {
+        self.add_optimize(list.clone());
+        self.add_survey_of_any(list);
+    }
 }
 
 /// The cases, always the same ones.
@@ -195,12 +203,9 @@ pub fn cases() -> Vec<Case> {
     for case in worked_examples::cases() {
         builder.add_both(case.list, 7);
     }
-    builder.add_both(
-        limits::largest_fields(Settings { count_regs: 32, ..Settings::default() }),
-        u32::MAX,
-    );
+    builder.add_both(largest_fields(USED_REGS), u32::MAX);
     for _ in 0..125 {
-        let list = any_list(&mut builder.random, 16);
+        let list = narrow_list(&mut builder.random, 16);
         builder.add_any(list.clone());
         let copy = damaged(&mut builder.random, &list);
         builder.add_any(copy);
@@ -210,7 +215,13 @@ pub fn cases() -> Vec<Case> {
     add_long(&mut builder);
     add_reduced(&mut builder);
     add_surveyed(&mut builder);
+    add_wide(&mut builder);
     builder.cases
+}
+
+/// A list over so many registers, every field as large as it may be.
+fn largest_fields(count_regs: u32) -> List {
+    limits::largest_fields(Settings { count_regs, ..Settings::default() })
 }
 
 /// The longest list and table that fit; then the same with a last record of no kind.
@@ -228,10 +239,9 @@ fn add_long(builder: &mut Builder) {
 fn add_reduced(builder: &mut Builder) {
     worked_examples::cases().into_iter().for_each(|case| builder.add_optimize(case.list));
     stored_lists::twelve().into_iter().for_each(|named| builder.add_optimize(named.list));
-    builder
-        .add_optimize(limits::largest_fields(Settings { count_regs: 32, ..Settings::default() }));
+    builder.add_optimize(largest_fields(MOST_REGS));
     for _ in 0..45 {
-        let list = any_list(&mut builder.random, 16);
+        let list = narrow_list(&mut builder.random, 16);
         builder.add_optimize(list.clone());
         let copy = damaged(&mut builder.random, &list);
         builder.add_optimize(copy);
@@ -249,16 +259,15 @@ fn add_reduced(builder: &mut Builder) {
 /// and parts that are too short.
 fn add_surveyed(builder: &mut Builder) {
     worked_examples::cases().into_iter().for_each(|case| builder.add_survey(case.list, 7));
-    let largest = limits::largest_fields(Settings { count_regs: 32, ..Settings::default() });
-    builder.add_survey(largest, u32::MAX);
+    builder.add_survey(largest_fields(MOST_REGS), u32::MAX);
     for _ in 0..14 {
-        let list = any_list(&mut builder.random, 12);
+        let list = narrow_list(&mut builder.random, 12);
         builder.add_survey_of_any(list.clone());
         let copy = damaged(&mut builder.random, &list);
         builder.add_survey_of_any(copy);
     }
     for turn in 0..8 {
-        let profile = Profile::labelled(&mut builder.random, 12);
+        let profile = Profile::labelled(&mut builder.random, 12, USED_REGS);
         let mut list = list(&mut builder.random, &profile);
         list.settings.compress = turn % 2 == 0;
         builder.add_survey(list, turn / 2);
@@ -279,6 +288,47 @@ fn add_parts_too_short(builder: &mut Builder) {
         builder.add(list.clone(), Survey { label: 0, parts_len });
         builder.add_survey(list, 0);
     }
+}
+
+/// Lists of more than 32 registers, to be reduced and surveyed: a known one, some with all registers
+/// live at once, and random ones with a damaged copy, the last of which has one register too many.
+fn add_wide(builder: &mut Builder) {
+    builder.add_optimize(stored_lists::sixty_four().list);
+    let live = live_lists(&mut builder.random);
+    let mut compressed = live[0].clone();
+    compressed.settings.compress = true;
+    live.into_iter().for_each(|list| builder.add_reduced_and_surveyed(list));
+    builder.add_survey_of_any(compressed);
+    for turn in 0..6 {
+        let list = wide_list(&mut builder.random);
+        builder.add_reduced_and_surveyed(list.clone());
+        let too_many = Settings { count_regs: MOST_REGS + 1, ..list.settings };
+        let copy = match turn {
+            5 => List { settings: too_many, ..list },
+            _ => damaged(&mut builder.random, &list),
+        };
+        builder.add_reduced_and_surveyed(copy);
+    }
+}
+
+/// Lists with all registers live at once, without and with records between. Of each the records
+/// alone tell the mask.
+fn live_lists(random: &mut Random) -> Vec<List> {
+    let sizes =
+        [33, 48, 63, 64].into_iter().flat_map(|count_regs| [(count_regs, 0), (count_regs, 6)]);
+    let live = |(count_regs, most)| {
+        let mut list = all_live_list(random, count_regs, most);
+        list.settings.compress = false;
+        list
+    };
+    sizes.map(live).collect()
+}
+
+/// A random list of 33 registers or more.
+fn wide_list(random: &mut Random) -> List {
+    let count_regs = random.between(USED_REGS + 1, MOST_REGS);
+    let settings = Settings { count_regs, ..Settings::default() };
+    list(random, &Profile { settings, ..Profile::plain(12) })
 }
 
 /// The whole file.

@@ -52,7 +52,7 @@ pub fn cases() -> Vec<Case> {
         case("F", 1, &f(), Left(f())),
         case("G", 2, &g, Refused(9, 2)),
         case("H", 2, &[load_const(2, 0)], Refused(7, 0)),
-        case("I", 33, &[], Refused(1, 0)),
+        case("I", 65, &[], Refused(1, 0)),
         case("J", 2, &[mov(1, 0)], Refused(9, 0)),
     ]
 }

@@ -61,7 +61,7 @@ fn the_files_hold_the_cases() {
         assert_eq!(lines.split_off(..expected.len()), Some(expected.as_bytes()));
     }
     assert!(rest.is_empty() && lines.is_empty());
-    assert!(input.len() < 120_000, "{} bytes", input.len());
+    assert!(input.len() < 130_000, "{} bytes", input.len());
 }
 
 #[test]
@@ -78,6 +78,9 @@ fn every_sort_of_case_is_there() {
     }
     assert!(lists.iter().any(|list| list.records() == MOST && list.table.len() == 2 * MOST));
     assert!(lists.iter().any(|list| list.words.chunks(8).any(|r| r[0] == 10 && r[2] > 4)));
+    for count_regs in [33, 63, 64] {
+        assert!(lists.iter().any(|list| list.settings.count_regs == count_regs), "{count_regs}");
+    }
     assert!(cases().iter().all(|file| file.len() <= LONGEST));
 }
 

@@ -17,7 +17,7 @@ fn beside(list: &List) -> Option<Refusal> {
 }
 
 fn some_list(random: &mut Random, records: usize) -> List {
-    let count_regs = random.between(1, 31);
+    let count_regs = random.between(1, 63);
     let settings = Settings { count_regs, ..Settings::default() };
     list(random, &Profile { settings, ..Profile::plain(records) })
 }
@@ -111,13 +111,13 @@ fn limits_are_where_they_are() {
         let settings = Settings { count_regs, args, ..Settings::default() };
         refusal(&settings, &vec![0; words], &vec![0; table], true)
     };
-    assert_eq!(at(32, 65_535, 524_288, 65_536), None);
-    assert_eq!(at(33, 65_535, 524_288, 65_536), Some((1, 0)));
-    assert_eq!(at(32, 65_536, 524_288, 65_536), Some((2, 0)));
-    assert_eq!(at(32, 65_535, 524_296, 65_536), Some((3, 0)));
-    assert_eq!(at(32, 65_535, 524_288, 65_538), Some((3, 0)));
-    assert_eq!(at(32, 65_535, 524_287, 65_536), Some((3, 0)));
-    assert_eq!(at(32, 65_535, 524_288, 65_535), Some((3, 0)));
+    assert_eq!(at(64, 65_535, 524_288, 65_536), None);
+    assert_eq!(at(65, 65_535, 524_288, 65_536), Some((1, 0)));
+    assert_eq!(at(64, 65_536, 524_288, 65_536), Some((2, 0)));
+    assert_eq!(at(64, 65_535, 524_296, 65_536), Some((3, 0)));
+    assert_eq!(at(64, 65_535, 524_288, 65_538), Some((3, 0)));
+    assert_eq!(at(64, 65_535, 524_287, 65_536), Some((3, 0)));
+    assert_eq!(at(64, 65_535, 524_288, 65_535), Some((3, 0)));
 }
 
 #[test]

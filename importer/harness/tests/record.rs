@@ -103,7 +103,7 @@ fn meaning_is_questions_5_and_6() {
                 _ => random.word(),
             };
         }
-        let passes = !matches!(refusal_beside(32, &record, &table, true), Some((5 | 6, 0)));
+        let passes = !matches!(refusal_beside(64, &record, &table, true), Some((5 | 6, 0)));
         assert_eq!(decode(&record, &table).is_some(), passes, "{record:?} {table:?}");
         *(if passes { &mut with } else { &mut without }) += 1;
     }

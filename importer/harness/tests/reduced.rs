@@ -4,6 +4,7 @@ use std::collections::BTreeSet;
 
 use harness::how_many;
 use harness::kinds::{load, load_args, load_complex, load_const, save, MEM, PARAM, STACK};
+use harness::limits::MOST_REGS;
 use harness::lists::{any_list, two_part_list, List};
 use harness::random::Random;
 use harness::record::WORDS;
@@ -15,11 +16,12 @@ use harness::settings::Settings;
 /// read before the register is written again or forgotten, or else at its writing.
 fn ends(list: &List) -> Vec<u32> {
     let mut ends = Vec::new();
-    let mut current = [None; 32];
+    let mut current = [None; MOST_REGS as usize];
     for (at, record) in list.words.chunks_exact(WORDS).enumerate() {
         let gens = |wanted: Role| {
             let words = words_with(record[0], |role| role == wanted).into_iter();
-            words.map(|word| record[word] as usize).filter(|register| *register < 32)
+            let registers = words.map(|word| record[word]).filter(|register| *register < MOST_REGS);
+            registers.map(|register| register as usize)
         };
         for register in gens(Role::Source) {
             let number: usize = current[register].expect("a static");
@@ -30,7 +32,7 @@ fn ends(list: &List) -> Vec<u32> {
             ends.push(at as u32);
         }
         if record[0] == 12 || record[0] == 15 {
-            current = [None; 32];
+            current = [None; MOST_REGS as usize];
         }
     }
     ends

@@ -44,10 +44,14 @@ fn times(words: &[u32], kind: u32) -> usize {
 
 #[test]
 fn fifteen_lists_that_pass() {
-    assert_eq!(lists().len(), 15);
+    assert_eq!(lists().len(), 16);
     for Named { name, list, .. } in lists() {
         assert_eq!(refusal(&list.settings, &list.words, &list.table, true), None, "{name}");
-        let most = if name == "thirty-two" { 20 } else { 10 };
+        let most = match name {
+            "thirty-two" => 20,
+            "sixty-four" => 36,
+            _ => 10,
+        };
         assert!((4..=most).contains(&list.records()), "{name}");
     }
 }
@@ -58,7 +62,7 @@ fn every_kind_and_register() {
         assert!(has(|record| record[0] == kind), "kind {kind}");
     }
     for wanted in [Role::Source, Role::Destination] {
-        for register in [0, 1, 2, 3, 31, RET, TEMP, LEFT, RIGHT] {
+        for register in [0, 1, 2, 3, 31, 63, RET, TEMP, LEFT, RIGHT] {
             let is = |record: &[u32], word| role(record[0], word) == wanted;
             let names = |r: &[u32]| (1..WORDS).any(|word| is(r, word) && r[word] == register);
             assert!(has(names), "{wanted:?} {register}");
@@ -66,8 +70,11 @@ fn every_kind_and_register() {
     }
     assert!(has(|record| record[..2] == [2, 19]), "the last UniOp");
     assert!(has(|record| record[..2] == [3, 14]), "the last BinOp");
-    let colours = reduced(&list_of("thirty-two")).statics;
-    assert!((0..32).all(|colour| colours.iter().any(|colour_end| colour_end.0 == colour)));
+    for (name, count_regs) in [("thirty-two", 32), ("sixty-four", 64)] {
+        let colours = reduced(&list_of(name)).statics;
+        let is_met = |colour| colours.iter().any(|colour_end| colour_end.0 == colour);
+        assert!((0..count_regs).all(is_met), "{name}");
+    }
 }
 
 #[test]
@@ -114,7 +121,7 @@ fn a_reset_by_each_of_four() {
 fn halves_held_at(list: &List, at: usize) -> [bool; 2] {
     let record: Record = list.record(at).try_into().expect("a record");
     let [_, x, y, space, index, ..] = record;
-    let free = if x < 32 { x } else { y };
+    let free = if x < 64 { x } else { y };
     let before = |half: u32| replaced(list, at, &[load(free, space, index + half), record]);
     [0, 1].map(|half| optimize(&before(half)) == optimize(list))
 }

@@ -2,6 +2,7 @@
 
 use harness::answers::{self, ABSENT};
 use harness::file::words;
+use harness::lists::USED_REGS;
 use harness::record::WORDS;
 use harness::vectors::{
     cases, file, Case, Operation, MOST_LENT, MOST_PAIRS, MOST_PARTS, MOST_RECORDS,
@@ -20,7 +21,7 @@ fn the_cases_fit_the_replay() {
             Operation::Survey { parts_len, .. } => assert!(parts_len <= MOST_PARTS),
         }
     }
-    assert!(file().len() <= 320_000, "{} bytes", file().len());
+    assert!(file().len() <= 430_000, "{} bytes", file().len());
 }
 
 /// The operation's number in the file.
@@ -54,12 +55,24 @@ fn every_sort_of_answer_is_there() {
     for number in 0..=9 {
         assert!(times(3, &numbered(number)) >= 2, "{number}");
     }
-    assert!(times(1, &|answer| answer >> 56 == 32) >= 10);
+    assert!(times(1, &|answer| answer >> 56 == 64) >= 10);
     for (operation, least) in [(2, 10), (4, 8)] {
         assert!(times(operation, &|answer| answer == u64::from(ABSENT)) >= least, "{operation}");
         assert!(times(operation, &|answer| answer < 512) >= least, "{operation}");
     }
     assert!(times(3, &numbered(0)) >= 50);
+}
+
+/// Operations 1 and 2 have lists of at most 32 registers, or refused ones.
+#[test]
+fn wide_lists_are_reduced_and_surveyed() {
+    let mut times = [0u32; 5];
+    for case in cases() {
+        let wide = case.list.settings.count_regs > USED_REGS && question(case.answer()) == 0;
+        times[number(&case.operation) as usize] += u32::from(wide);
+    }
+    assert_eq!(times[1..3], [0, 0]);
+    assert!(times[3] >= 14 && times[4] >= 14, "{times:?}");
 }
 
 /// Of the surveyed lists: every length of the parts, and every question with some that are long

@@ -32,7 +32,7 @@ const COUNTS: usize = 7;
 /// What a list is reduced for.
 #[derive(Clone, Copy, Debug, Default, PartialEq, Eq)]
 pub struct Settings {
-    /// How many Gen registers there are, at most 32.
+    /// How many Gen registers there are, at most 64.
     pub count_regs: u32,
     /// How many arguments the list has, at most 65,535.
     pub args: u32,
@@ -223,11 +223,11 @@ mod tests {
 
     #[test]
     fn settings_go_in_their_order() {
-        let settings = Settings { count_regs: 32, args: 7, ..Settings::default() };
-        assert_eq!(settings.words(), [32, 7, 0, 0, 0]);
-        assert_eq!(Settings { complex: true, ..settings }.words(), [32, 7, 1, 0, 0]);
-        assert_eq!(Settings { arm: true, ..settings }.words(), [32, 7, 0, 1, 0]);
-        assert_eq!(Settings { compress: true, ..settings }.words(), [32, 7, 0, 0, 1]);
+        let settings = Settings { count_regs: 64, args: 7, ..Settings::default() };
+        assert_eq!(settings.words(), [64, 7, 0, 0, 0]);
+        assert_eq!(Settings { complex: true, ..settings }.words(), [64, 7, 1, 0, 0]);
+        assert_eq!(Settings { arm: true, ..settings }.words(), [64, 7, 0, 1, 0]);
+        assert_eq!(Settings { compress: true, ..settings }.words(), [64, 7, 0, 0, 1]);
     }
 
     #[test]

@@ -16,7 +16,7 @@ impl Refusal {
     /// What is wrong, in words.
     pub fn reason(self) -> &'static str {
         match self.number {
-            1 => "count_regs is above 32",
+            1 => "count_regs is above 64",
             2 => "args is above 65,535",
             3 => "the list or its table of locations is too long, or of a wrong length",
             4 => "an output has too little room",
@@ -51,7 +51,7 @@ mod tests {
     #[test]
     fn a_refusal_says_which_question_and_where() {
         let whole = Refusal { number: 1, index: 0 };
-        assert_eq!(whole.to_string(), "refused by question 1: count_regs is above 32");
+        assert_eq!(whole.to_string(), "refused by question 1: count_regs is above 64");
         let record = Refusal { number: 5, index: 12 };
         assert_eq!(
             record.to_string(),

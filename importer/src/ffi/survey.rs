@@ -58,7 +58,7 @@ impl Survey {
     }
 }
 
-/// The registers that the list writes, and BranchIf's conditions, every one of 32 if `compress`; and
+/// The registers that the list writes, and BranchIf's conditions, every one of 64 if `compress`; and
 /// the place of the last Label with the number.
 pub fn survey(
     list: &[u32],
@@ -107,8 +107,8 @@ mod tests {
 
     #[test]
     fn words_have_their_meaning() {
-        let all = Survey { mask: 0xffff_ffff, count: 32, place: Place::At(65_535) };
-        assert_eq!(Survey::from_parts([u32::MAX, 0, 32, 65_535]), all);
+        let all = Survey { mask: u64::MAX, count: 64, place: Place::At(65_535) };
+        assert_eq!(Survey::from_parts([u32::MAX, u32::MAX, 64, 65_535]), all);
         let none = Survey { mask: 0, count: 0, place: Place::At(0) };
         assert_eq!(Survey::from_parts([0, 0, 0, 0]), none);
         let high = Survey { mask: 5 << 32 | 6, count: 4, place: Place::Absent };

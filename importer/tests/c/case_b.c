@@ -56,6 +56,7 @@ static int untouched(const uint8_t *bytes, size_t from, size_t to)
 static void check_survey(void)
 {
     static const uint32_t expected[4] = {1, 0, 1, UINT32_MAX};
+    static const uint32_t all[4] = {UINT32_MAX, UINT32_MAX, 64, UINT32_MAX};
     uint32_t parts[6];
     const uint8_t *bytes = (const uint8_t *)parts;
     uint64_t word;
@@ -70,7 +71,7 @@ static void check_survey(void)
     check(memcmp(parts, expected, sizeof expected) == 0, "survey: register 0 alone, label absent");
     check(untouched(bytes, sizeof expected, sizeof parts), "survey: other words as they were");
     word = rudzaviks_survey(list, WORDS, table, 0, 1, 1, 7, parts, 4);
-    check(word == UINT32_MAX && parts[0] == UINT32_MAX && parts[1] == 0 && parts[2] == 32, "survey: compress");
+    check(word == UINT32_MAX && memcmp(parts, all, sizeof all) == 0, "survey: compress");
 }
 
 static void check_optimize(void)

@@ -16,7 +16,7 @@ pub fn any_word(random: &mut Random) -> u32 {
 
 pub fn arbitrary_list(random: &mut Random) -> List {
     let settings = Settings {
-        count_regs: if random.percent(95) { random.between(0, 33) } else { random.word() },
+        count_regs: if random.percent(95) { random.between(0, 66) } else { random.word() },
         compress: random.percent(20),
         ..Settings::default()
     };

@@ -2,13 +2,14 @@
 //! it is to be refused with.
 
 use harness::damage::{Fault, OF_RECORD};
+use harness::limits::MOST_REGS;
 use harness::lists::{list, List, Profile};
 use harness::random::Random;
 use harness::settings::Settings;
 
 /// A passing list.
 pub fn some_list(random: &mut Random, records: usize) -> List {
-    let count_regs = random.between(1, 32);
+    let count_regs = random.between(1, MOST_REGS);
     let settings = Settings { count_regs, ..Settings::default() };
     list(random, &Profile { settings, ..Profile::plain(records) })
 }
@@ -74,7 +75,7 @@ pub fn each_fault_in_the_longest(
     faults: &[Fault],
     mut check: impl FnMut(&List, u32, usize),
 ) {
-    let settings = Settings { count_regs: 32, ..Settings::default() };
+    let settings = Settings { count_regs: MOST_REGS, ..Settings::default() };
     let longest = list(random, &Profile { settings, ..Profile::plain(most) });
     for fault in faults {
         for start in [0, most / 2, most - 36] {

@@ -28,7 +28,8 @@ fn made(case: &Case, label: u32, of_parts: impl Fn(&[u32]) -> u64) -> u64 {
 fn got(case: &Case) -> u64 {
     match case.operation {
         Operation::Registers => made(case, 0, |parts| {
-            assert_eq!(parts[1], 0, "{:?}", case.list);
+            let above = if case.list.settings.compress { u32::MAX } else { 0 };
+            assert_eq!(parts[1], above, "{:?}", case.list);
             u64::from(parts[2]) << 56 | u64::from(parts[0])
         }),
         Operation::Place(label) => made(case, label, |parts| u64::from(parts[3])),

@@ -3,7 +3,9 @@
 use std::collections::HashSet;
 
 use crate::machine::Machine;
-use crate::support::{each_list, each_two_part_list, instructions, settings, straight_list};
+use crate::support::{
+    each_list, each_live_list, each_two_part_list, instructions, is_wide, settings, straight_list,
+};
 use harness::kinds::STACK;
 use harness::lists::List;
 use harness::random::Random;
@@ -96,6 +98,7 @@ fn each_instruction_has_its_outcome() {
     let lists = how_many(20_000);
     each_list(95, lists, 200, outcomes_fit);
     each_two_part_list(98, lists, 30, outcomes_fit);
+    each_live_list(90, lists / 4, outcomes_fit);
 }
 
 #[test]
@@ -155,17 +158,36 @@ fn reasons_are_true(seed: u64, code: &[Instruction], reduced: &Reduced) -> [u64;
     times
 }
 
+/// `reasons_are_true` of a list that passes.
+fn reasons_of(seed: u64, list: &List) -> [u64; 3] {
+    let code = instructions(list);
+    let reduced = reduce(&code, &settings(list)).expect("a list that passes");
+    reasons_are_true(seed, &code, &reduced)
+}
+
 #[test]
 fn what_is_said_to_be_in_a_register_is_there() {
     let mut random = Random::new(96);
     let lists = how_many(100_000);
-    let mut times = [0; 3];
+    let (mut times, mut wide) = ([0; 3], 0);
     for seed in 0..lists {
         let list = straight_list(&mut random);
-        let code = instructions(&list);
-        let reduced = reduce(&code, &settings(&list)).expect("a list that passes");
-        let met = reasons_are_true(seed, &code, &reduced);
+        wide += u64::from(is_wide(&list));
+        let met = reasons_of(seed, &list);
         times.iter_mut().zip(met).for_each(|(times, met)| *times += met);
     }
     assert!(times[1] > lists && times[2] > lists / 10, "{times:?}");
+    assert!(wide > lists / 20, "{wide}");
+}
+
+/// The same where every register is taken.
+#[test]
+fn what_is_said_of_many_registers_is_there() {
+    let lists = how_many(20_000) / 4;
+    let (mut seed, mut one) = (0, 0);
+    each_live_list(89, lists, |list| {
+        seed += 1;
+        one += reasons_of(seed, list)[1];
+    });
+    assert!(one > lists / 2, "{one}");
 }

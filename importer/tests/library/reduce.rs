@@ -1,6 +1,8 @@
 //! `reduce` beside the copies of the original and the questions.
 
-use crate::support::{each_list, each_two_part_list, instructions, records, settings};
+use crate::support::{
+    each_list, each_live_list, each_two_part_list, instructions, records, settings,
+};
 use harness::how_many;
 use harness::lists::{list, List, Profile};
 use harness::questions::refusal;
@@ -54,6 +56,7 @@ fn lists_are_reduced_as_by_the_copies() {
     let mut check = |list: &List| tally.add(reduced_as_expected(list));
     each_list(91, lists, 700, &mut check);
     each_two_part_list(94, lists, 40, &mut check);
+    each_live_list(99, lists / 4, &mut check);
     tally.print("the library's reduce");
 }
 

@@ -3,7 +3,9 @@
 //! file.
 
 use crate::machine::{run, Machine, MINUS_ZERO};
-use crate::support::{instructions, left_by_original, settings, straight_list};
+use crate::support::{
+    each_live_list, instructions, is_wide, left_by_original, settings, straight_list,
+};
 use harness::how_many;
 use harness::random::Random;
 use harness::tally::{By, Tally};
@@ -123,9 +125,10 @@ fn a_list_and_its_reduced_list_end_equal() {
     let mut random = Random::new(97);
     let lists = how_many(500_000);
     let mut met = Conditions::default();
-    let (mut tally, mut otherwise) = (Tally::default(), 0);
+    let (mut tally, mut otherwise, mut wide) = (Tally::default(), 0, 0);
     for seed in 0..lists {
         let list = straight_list(&mut random);
+        wide += u64::from(is_wide(&list));
         let (code, mark) = (instructions(&list), settings(&list).fixed_mark());
         let mut before = Machine::new(seed);
         for ins in &code {
@@ -143,4 +146,19 @@ fn a_list_and_its_reduced_list_end_equal() {
     tally.print("straight lists on the machine");
     println!("by the original {otherwise} of them end otherwise, by the port none");
     assert!(otherwise > lists / 100, "{otherwise}");
+    assert!(wide > lists / 20, "{wide}");
+}
+
+/// Where every register is taken the port leaves what the original does, and both end equal.
+#[test]
+fn lists_with_all_registers_live_end_equal() {
+    let mut seed = 0;
+    each_live_list(88, how_many(20_000), |list| {
+        seed += 1;
+        let code = instructions(list);
+        let reduced = reduce(&code, &settings(list)).expect("a list that passes").list;
+        assert_eq!(reduced, left_by_original(list), "{list:?}");
+        let (before, mark) = (run(&code, Machine::new(seed)), settings(list).fixed_mark());
+        assert_eq!(difference(&before, seed, &reduced, mark), None, "seed {seed}, {list:?}");
+    });
 }

@@ -1,6 +1,7 @@
 //! The harness's lists as the library holds them.
 
-use harness::lists::{any_list, list, two_part_list, List, Profile};
+use harness::limits::MOST_REGS;
+use harness::lists::{all_live_list, any_list, list, two_part_list, List, Profile, USED_REGS};
 use harness::random::Random;
 use harness::run;
 use rudzaviks::record::Records;
@@ -25,9 +26,30 @@ pub fn left_by_original(list: &List) -> Vec<Instruction> {
     left.instructions().expect("records that are left have a meaning")
 }
 
-/// Random lists, one after the other.
-pub fn each_list(seed: u64, lists: u64, most_records: u32, check: impl FnMut(&List)) {
-    each_of(any_list, seed, lists, most_records, check);
+/// Whether it has more than 32 registers.
+pub fn is_wide(list: &List) -> bool {
+    list.settings.count_regs > USED_REGS
+}
+
+/// Random lists, one after the other; more than one in ten are wide.
+pub fn each_list(seed: u64, lists: u64, most_records: u32, mut check: impl FnMut(&List)) {
+    let mut wide = 0;
+    let count_and_check = |list: &List| {
+        wide += u64::from(is_wide(list));
+        check(list);
+    };
+    each_of(any_list, seed, lists, most_records, count_and_check);
+    assert!(wide > lists / 10, "{wide}");
+}
+
+/// Lists of every number of registers, with all of them live at once. The plain machine runs them.
+pub fn each_live_list(seed: u64, lists: u64, mut check: impl FnMut(&List)) {
+    let mut random = Random::new(seed);
+    for _ in 0..lists / u64::from(MOST_REGS) {
+        for count_regs in 0..=MOST_REGS {
+            check(&all_live_list(&mut random, count_regs, 40));
+        }
+    }
 }
 
 /// Random lists of mostly two-part records.

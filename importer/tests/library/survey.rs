@@ -31,7 +31,7 @@ fn counted(ins: &Instruction) -> Vec<Reg> {
 
 fn used(code: &[Instruction], settings: &Settings) -> Vec<Reg> {
     let counted: Vec<Reg> = code.iter().flat_map(counted).collect();
-    (0..32).map(reg).filter(|reg| settings.compress || counted.contains(reg)).collect()
+    (0..64).map(reg).filter(|reg| settings.compress || counted.contains(reg)).collect()
 }
 
 fn jumps_to(ins: &Instruction) -> Option<u32> {
@@ -75,6 +75,8 @@ struct Met {
     without_registers: u64,
     without_labels: u64,
     not_reduced: u64,
+    /// A register above 31 is used, and not by `compress`.
+    high: u64,
 }
 
 impl Met {
@@ -98,6 +100,8 @@ impl Met {
             assert_eq!(answer, plain_count(&code, &settings), "{code:?}");
             self.add(&answer);
             self.not_reduced += u64::from(reduce(&code, &settings).is_err());
+            let is_high = |reg: &Reg| matches!(reg, Reg::Gen(32..));
+            self.high += u64::from(!settings.compress && answer.registers.iter().any(is_high));
             for at in 1..code.len() {
                 code.swap(at, random.index(at + 1));
             }
@@ -125,10 +129,10 @@ fn lists_are_surveyed_as_by_a_plain_count() {
     each_list(102, lists, 300, |list| met.compare(&mut random, list));
     each_two_part_list(103, lists, 30, |list| met.compare(&mut random, list));
     println!("surveyed: {met:?}");
-    let Met { single, repeated, absent, without_registers, without_labels, not_reduced } = met;
+    let Met { single, repeated, absent, without_registers, without_labels, .. } = met;
     assert!(single > lists && repeated > lists && absent > lists);
     assert!(without_registers > lists / 20 && without_labels > lists / 4);
-    assert!(not_reduced > lists);
+    assert!(met.not_reduced > lists && met.high > lists / 10);
 }
 
 #[test]

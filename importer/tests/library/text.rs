@@ -13,7 +13,7 @@ use rudzaviks::{text, Instruction, Settings};
 fn values(role: Role) -> Vec<u32> {
     match role {
         Role::Op(ops) => (0..ops).collect(),
-        Role::Source | Role::Destination => vec![3, 255, 256, 257, 258, 259],
+        Role::Source | Role::Destination => vec![63, 255, 256, 257, 258, 259],
         Role::Space => vec![0, 1, 2],
         Role::Index | Role::PartnerIndex | Role::Label | Role::Any => vec![0, 7, u32::MAX],
         Role::First => vec![0, 1],
@@ -58,7 +58,7 @@ fn every_kind_comes_back_from_its_text() {
 
 #[test]
 fn every_setting_comes_back_from_its_text() {
-    for number in [0, 1, 32, u32::MAX] {
+    for number in [0, 1, 64, u32::MAX] {
         for flags in 0..8 {
             let [complex, arm, compress] = [1, 2, 4].map(|bit| flags & bit != 0);
             let settings =

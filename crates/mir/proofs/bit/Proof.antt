@@ -1,5 +1,6 @@
 -- `mir::bit` meets its contract: the shift by a register below the limit is its power of two.
 use mathlib.Core.Path.{sym, _∙_}
+use Rattle.mir.specs.Records.{maxRegs}
 use Rattle.mir.proofs.Masks.{bit-is, mask-one, mask-named}
 use Rattle.mir.proofs.bit.Statement.{statement}
 use Rattle.mir.proofs.bit.Tie as tie
@@ -8,7 +9,7 @@ shl-result : tie.Need-shl-result
 shl-result c = c .before .pre (c .if1 .taken)
 
 returns : tie.Need-returns
-returns c = bit-is 32 _ (c .before .pre (c .if1 .taken)) ∙ sym (mask-one _ (c .if1 .taken))
+returns c = bit-is maxRegs _ (c .before .pre (c .if1 .taken)) ∙ sym (mask-one _ (c .if1 .taken))
 
 returns-2 : tie.Need-returns-2
 returns-2 c = sym (mask-named _ _ (c .if1 .left))

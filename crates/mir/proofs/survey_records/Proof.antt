@@ -78,7 +78,7 @@ returns-2 c =
     let e : at .loop .i ≡ records list = omega (arith, inv .0) in
     let m : at .loop .mask ≡ maskTo list (records list) = rw e at (inv .1) in
     let l : placeIn (at .loop .place) ≡ lastBelow (labelAt list (a .label)) (records list) = rw e at (inv .2) in
-    rw (← (unrefused-ends (inv .0) (c .before .loop-test .left)), ones-digits 32 (u .result) (u .ok), u .ensures, m, l)
+    rw (← (unrefused-ends (inv .0) (c .before .loop-test .left)), ones-digits maxRegs (u .result) (u .ok), u .ensures, m, l)
 
 pub survey-records-spec : {M : Type 1} → statement M
 survey-records-spec =

@@ -13,16 +13,15 @@ use Rattle.rudzaviks.proofs.write_parts.Tie as tie
 returns : tie.Need-returns
 returns c =
     let a = c .args in
-    let low : a .mask % 2 ^ 32 ≡ a .mask = omega arith in
-    let high : a .mask / 2 ^ 32 ≡ 0 = omega arith in
-    rw (low, high) (sets-eq (a .mask ∷ 0 ∷ a .count ∷ a .place ∷ []) (a .parts .now) 0 (c .pre))
+    sets-eq (a .mask % 2 ^ 32 ∷ a .mask / 2 ^ 32 ∷ a .count ∷ a .place ∷ []) (a .parts .now) 0 (c .pre)
 
 pub write-parts-spec : {M : Type 1} → statement M
 write-parts-spec =
     tie.close
     (tie.spec
+    (λ c. search needs) (λ c. search needs) (λ c. search needs)
+    (λ c. simp length-set (omega arith))
+    (λ c. simp length-set (omega arith))
+    (λ c. simp length-set (omega arith))
     (λ c. search needs)
-    (λ c. simp length-set (omega arith))
-    (λ c. simp length-set (omega arith))
-    (λ c. search needs) (λ c. search needs)
     returns)

@@ -48,7 +48,7 @@ Shows which general registers the list uses, how many they are, and where its la
 
 A register is used if a line writes it. The condition of a branch counts as well; a line that writes
 two registers, (%0 + %1*im) := ..., counts only if both are general. With the setting compress all
-32 registers are used.
+64 registers are used.
 
 A label is shown if it is in the list or a line jumps to it: the place of the last line that has its
 number, and how many lines have it if several do; or that it is absent, and the first line that

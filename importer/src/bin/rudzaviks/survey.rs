@@ -59,6 +59,6 @@ mod tests {
         let one = Settings { count_regs: 1, ..settings };
         assert_eq!(used(0..1, &one), "1 of 1 register used: %0");
         let compress = Settings { compress: true, ..settings };
-        assert_eq!(used(0..32, &compress), "all 32 registers used, since compress is set");
+        assert_eq!(used(0..64, &compress), "all 64 registers used, since compress is set");
     }
 }

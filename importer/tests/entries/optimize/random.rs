@@ -2,33 +2,51 @@
 
 use super::support::{agree_with_room, passes};
 use crate::arbitrary::arbitrary_list;
+use crate::support::shown;
 use harness::damage::damaged;
-use harness::lists::{any_list, list, two_part_list, Profile};
+use harness::limits::MOST_REGS;
+use harness::lists::{all_live_list, any_list, list, two_part_list, List, Profile, USED_REGS};
 use harness::random::Random;
 use harness::settings::Settings;
 use harness::tally::Tally;
 use harness::{how_many, limits, run};
 use rudzaviks::ffi::{self, optimize, Answer, Buffers, Counts};
 
-fn passing(seed: u64, lists: u64) {
-    let mut random = Random::new(seed);
-    let mut times = [0u64; 8];
-    let mut tally = Tally::default();
-    for _ in 0..lists {
-        let list = any_list(&mut random, 200);
-        let (counts, by) = passes(&mut random, &list);
-        tally.add(by);
+/// What was met in lists that pass, and by whose answers they were compared.
+#[derive(Default)]
+struct Met {
+    times: [u64; 8],
+    tally: Tally,
+}
+
+impl Met {
+    fn add(&mut self, random: &mut Random, list: &List) {
+        let (counts, by) = passes(random, list);
+        self.tally.add(by);
         let Counts { statics, members, nops, loads, moves, saves, .. } = counts;
         let many = u32::from(members > 20);
         let complex = u32::from(list.settings.complex);
-        for (times, seen) in
-            times.iter_mut().zip([statics, members, nops, loads, moves, saves, many, complex])
-        {
+        let seen = [statics, members, nops, loads, moves, saves, many, complex];
+        for (times, seen) in self.times.iter_mut().zip(seen) {
             *times += u64::from(seen > 0);
         }
     }
-    assert!(times.iter().all(|times| *times > lists / 100), "{times:?}");
-    tally.print(&format!("optimize, any lists of seed {seed}"));
+
+    /// Each of them was met, more than once in a hundred lists.
+    fn print(&self, lists: u64, what: &str) {
+        assert!(self.times.iter().all(|times| *times > lists / 100), "{:?}", self.times);
+        self.tally.print(what);
+    }
+}
+
+fn passing(seed: u64, lists: u64) {
+    let mut random = Random::new(seed);
+    let mut met = Met::default();
+    for _ in 0..lists {
+        let list = any_list(&mut random, 200);
+        met.add(&mut random, &list);
+    }
+    met.print(lists, &format!("optimize, any lists of seed {seed}"));
 }
 
 #[test]
@@ -39,6 +57,43 @@ fn passing_lists() {
 #[test]
 fn more_passing_lists() {
     passing(502, how_many(1_000_000) / 2);
+}
+
+/// A list of any profile, but with more than 32 registers.
+fn wide_list(random: &mut Random, most_records: u32) -> List {
+    let mut profile = Profile::random(random, most_records);
+    profile.settings.count_regs = random.between(USED_REGS + 1, MOST_REGS);
+    list(random, &profile)
+}
+
+#[test]
+fn wide_lists() {
+    let mut random = Random::new(511);
+    let mut met = Met::default();
+    let lists = how_many(200_000);
+    for _ in 0..lists {
+        let list = wide_list(&mut random, 200);
+        met.add(&mut random, &list);
+        let list = damaged(&mut random, &list);
+        agree_with_room(&mut random, &list);
+    }
+    met.print(lists, "optimize, lists of more than 32 registers");
+}
+
+/// Every number of registers, with records between the loads and the saves or with none: then every
+/// colour is taken.
+#[test]
+fn all_registers_live() {
+    let mut random = Random::new(512);
+    for _ in 0..how_many(200_000) / 1_000 {
+        for count_regs in 0..=MOST_REGS {
+            for most in [0, 40] {
+                let list = all_live_list(&mut random, count_regs, most);
+                let (counts, _) = passes(&mut random, &list);
+                assert!(counts.statics >= count_regs, "{}", shown(&list));
+            }
+        }
+    }
 }
 
 /// Up to so many records each.

@@ -130,7 +130,7 @@ fn one_entry_over_the_limit() {
 fn the_form_decides() {
     let mut random = Random::new(1007);
     for mut list in lists(&mut random) {
-        list.settings.count_regs = 33;
+        list.settings.count_regs = 65;
         refuses(&mut random, &encode(&list, 1), 0, 1);
         list.settings.args = 65_536;
         for record in list.words.chunks_exact_mut(WORDS) {

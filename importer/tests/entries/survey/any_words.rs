@@ -27,7 +27,7 @@ fn raw_words_are_answered() {
     let mut random = Random::new(302);
     for _ in 0..how_many(500_000) / 10 {
         let (words, table) = (random.index(600), random.index(60));
-        let settings = Settings { count_regs: random.between(0, 40), ..Settings::default() };
+        let settings = Settings { count_regs: random.between(0, 80), ..Settings::default() };
         let table = (0..table).map(|_| random.word()).collect();
         let words = (0..words).map(|_| random.word()).collect();
         agree(&List { settings, table, words }, &[random.word()]);

@@ -5,7 +5,7 @@ use harness::lists::List;
 use harness::settings::Settings;
 
 /// Words at and around every limit.
-const VALUES: [u32; 24] = [
+const VALUES: [u32; 27] = [
     0,
     1,
     2,
@@ -20,6 +20,9 @@ const VALUES: [u32; 24] = [
     31,
     32,
     33,
+    63,
+    64,
+    65,
     255,
     256,
     257,
@@ -40,7 +43,7 @@ fn one_record(count_regs: u32, compress: bool, record: [u32; 8]) -> List {
 #[test]
 fn every_kind_with_one_word_changed() {
     for kind in 0..=21 {
-        for count_regs in [0, 1, 2, 31, 32, 33] {
+        for count_regs in [0, 1, 2, 31, 32, 33, 63, 64, 65] {
             for word in 0..8 {
                 for value in VALUES {
                     let mut record = [kind, 0, 0, 0, 0, 0, 0, 0];
@@ -80,8 +83,9 @@ fn every_register_in_every_place() {
                     let words: &[usize] = registers(kind);
                     words.iter().for_each(|place| record[*place] = other);
                     record[word] = register;
-                    agree(&one_record(32, false, record), &[0]);
-                    agree(&one_record(17, false, record), &[0]);
+                    for count_regs in [17, 32, 64] {
+                        agree(&one_record(count_regs, false, record), &[0]);
+                    }
                 }
             }
         }
@@ -105,8 +109,10 @@ fn registers(kind: u32) -> &'static [usize] {
 #[test]
 fn every_two_destinations() {
     for (x, y) in (0..260).flat_map(|x| (0..260).map(move |y| (x, y))) {
-        agree(&one_record(32, false, [7, x, y, 0, 0, 0, 0, 0]), &[0]);
-        agree(&one_record(32, false, [20, 0, x, y, 256, 256, 256, 256]), &[0]);
+        for count_regs in [32, 64] {
+            agree(&one_record(count_regs, false, [7, x, y, 0, 0, 0, 0, 0]), &[0]);
+            agree(&one_record(count_regs, false, [20, 0, x, y, 256, 256, 256, 256]), &[0]);
+        }
     }
 }
 

@@ -48,15 +48,28 @@ fn the_worked_examples() {
 }
 
 fn records(records: &[Record], compress: bool) -> List {
-    let settings = Settings { count_regs: 32, compress, ..Settings::default() };
+    let settings = Settings { count_regs: 64, compress, ..Settings::default() };
     List { settings, table: Vec::new(), words: records.concat() }
 }
 
-/// A record of each kind, and the mask that it alone gives. A two-part record counts only if both
-/// of its destinations are Gen registers; a BranchIf counts its condition.
+/// Each record gives its mask alone, all of them give the union, and with `compress` each gives all
+/// registers.
+fn give(each: &[(Record, u64)]) {
+    for (record, mask) in each {
+        assert_eq!(surveyed(&records(&[*record], false)), Ok((*mask, None)), "{record:?}");
+        let list = records(&[*record, label(7)], true);
+        assert_eq!(surveyed(&list), Ok((u64::MAX, Some(1))), "{record:?}");
+    }
+    let union = each.iter().fold(0, |union, (_, mask)| union | mask);
+    let all: Vec<Record> = each.iter().map(|(record, _)| *record).collect();
+    assert_eq!(surveyed(&records(&all, false)), Ok((union, None)));
+}
+
+/// A two-part record counts only if both of its destinations are Gen registers; a BranchIf counts
+/// its condition.
 #[test]
 fn each_kind() {
-    let each: [(Record, u64); 27] = [
+    give(&[
         (nop(), 0),
         (end(), 0),
         (uni(0, 3, 1), 1 << 3),
@@ -84,13 +97,33 @@ fn each_kind() {
         (load_const_math(0, 15, 1, 3), 1 << 15),
         (complex_bi(0, [16, 17], [1, 2, 3, 4]), 3 << 16),
         (complex_bi(0, [16, RIGHT], [1, 2, 3, 4]), 0),
-    ];
-    for (record, mask) in each {
-        assert_eq!(surveyed(&records(&[record], false)), Ok((mask, None)), "{record:?}");
-        let list = records(&[record, label(7)], true);
-        assert_eq!(surveyed(&list), Ok((0xffff_ffff, Some(1))), "{record:?}");
-    }
-    let union = each.iter().fold(0, |union, (_, mask)| union | mask);
-    let all = each.map(|(record, _)| record);
-    assert_eq!(surveyed(&records(&all, false)), Ok((union, None)));
+    ]);
+}
+
+/// Registers of the mask's high word, also beside one of its low word.
+#[test]
+fn each_kind_above_bit_31() {
+    give(&[
+        (uni(0, 32, 1), 1 << 32),
+        (bi(0, 33, 62, 63), 1 << 33),
+        (mov(63, 30), 1 << 63),
+        (load(47, MEM, 5), 1 << 47),
+        (save(63, MEM, 5), 0),
+        (load_complex(31, 32, MEM, 0), 3 << 31),
+        (load_complex(63, 62, MEM, 0), 3 << 62),
+        (load_complex(5, 63, MEM, 0), 1 << 63 | 1 << 5),
+        (load_complex(34, 34, MEM, 0), 1 << 34),
+        (load_complex(35, TEMP, MEM, 0), 0),
+        (load_complex(LEFT, 63, MEM, 0), 0),
+        (save_complex(62, 63, MEM, 0), 0),
+        (load_const(36, 63), 1 << 36),
+        (fused(0, 37, 61, 62, 63), 1 << 37),
+        (if_else(38, 62, 63, MEM, 39), 1 << 38),
+        (branch_if(40, 7, 0), 1 << 40),
+        (load_math(0, 41, 63, MEM, 42), 1 << 41),
+        (load_const_math(0, 43, 63, 44), 1 << 43),
+        (complex_bi(0, [63, 0], [59, 60, 61, 62]), 1 << 63 | 1),
+        (complex_bi(0, [45, 46], [32, 33, 63, 62]), 3 << 45),
+        (complex_bi(0, [48, RET], [32, 33, 63, 62]), 0),
+    ]);
 }

@@ -1,8 +1,10 @@
-//! Random lists, surveyed through the C entry and by the original.
+//! Random lists, surveyed through the C entry, beside what is expected: the mask by the original,
+//! and with more than 32 registers by the plain statement.
 
 use super::support::{agree, labels, question};
 use harness::damage::damaged;
-use harness::lists::{any_list, list, Profile};
+use harness::limits::MOST_REGS;
+use harness::lists::{any_list, list, Profile, USED_REGS};
 use harness::random::Random;
 use harness::settings::Settings;
 use harness::{answers, how_many, limits};
@@ -11,6 +13,7 @@ use rudzaviks::ffi::{survey, Place, Refusal, Survey};
 fn passing(seed: u64, lists: u64) {
     let mut random = Random::new(seed);
     let (mut present, mut repeated, mut absent, mut compressed) = (0, 0, 0, 0);
+    let [mut narrow, mut wide] = [0; 2];
     for _ in 0..lists {
         let list = any_list(&mut random, 80);
         agree(&list, &labels(&list));
@@ -19,10 +22,10 @@ fn passing(seed: u64, lists: u64) {
         repeated += u64::from(all.first().is_some_and(|label| all[1..].contains(label)));
         absent += u64::from(!all.contains(&5));
         compressed += u64::from(list.settings.compress);
+        *(if list.settings.count_regs > USED_REGS { &mut wide } else { &mut narrow }) += 1;
     }
-    for times in [present, repeated, absent, compressed] {
-        assert!(times > lists / 50, "{present} {repeated} {absent} {compressed}");
-    }
+    let times = [present, repeated, absent, compressed, narrow, wide];
+    assert!(times.iter().all(|times| *times > lists / 50), "{times:?}");
 }
 
 #[test]
@@ -74,15 +77,15 @@ fn lists_at_the_limits() {
 fn decoded_answers() {
     let mut random = Random::new(105);
     for _ in 0..2_000 {
-        let count_regs = random.between(0, 34);
+        let count_regs = random.between(0, 66);
         let settings = Settings { count_regs, compress: random.percent(20), ..Settings::default() };
         let list = list(&mut random, &Profile { settings, ..Profile::plain(12) });
         let surveyed = survey(&list.words, &list.table, count_regs, settings.compress, 1);
-        if count_regs > 32 {
+        if count_regs > MOST_REGS {
             assert_eq!(surveyed, Err(Refusal { number: 1, index: 0 }));
             continue;
         }
-        let mask = answers::Survey::of(&list).registers() & 0xffff_ffff;
+        let mask = answers::Survey::of(&list).mask().expect("a list that passes");
         let place = match list.words.chunks(8).rposition(|record| record[..2] == [15, 1]) {
             Some(index) => Place::At(index as u32),
             None => Place::Absent,

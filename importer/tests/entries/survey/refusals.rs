@@ -63,7 +63,7 @@ fn count_regs_comes_before_sizes() {
         let mut list = some_list(&mut random, 3);
         fault.put(&mut random, &mut list, 0);
         refuses(&list, 3, 0);
-        list.settings.count_regs = 33;
+        list.settings.count_regs = 65;
         refuses(&list, 1, 0);
     }
 }

@@ -64,6 +64,7 @@ pub check-spec : {M : Type 1} → statement M
 check-spec =
     tie.close
     (tie.spec
+    (λ c. search needs)
     returns
     returns-2
     (λ c κs. search needs)

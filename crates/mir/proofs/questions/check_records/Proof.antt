@@ -6,6 +6,7 @@ use native.Mathlib.Numerals.{add-one}
 use native.Mathlib.Omega.{arith}
 use borrow.Author.Needs.{needs}
 use denote.Ref.{now}
+use Rattle.mir.specs.Inner.{currentsIn}
 use Rattle.mir.specs.Records.{maxRegs}
 use Rattle.mir.specs.Renaming.{regsTo, staticsTo}
 use Rattle.mir.specs.Questions.{recordBy, recordRefusal}
@@ -17,7 +18,7 @@ use Rattle.mir.proofs.questions.check_records.Tie as tie
 
 abbrev Inv-loop : tie.InvT-loop
 Inv-loop list table count-regs n regs₀ statics₀ i₀ regs statics i =
-    Unrefused (recordBy table count-regs list) n i × (regs ≡ regsTo list i) × (statics ≡ staticsTo list i)
+    Unrefused (recordBy table count-regs list) n i × (currentsIn regs ≡ regsTo list i) × (statics ≡ staticsTo list i)
 
 abbrev μ-loop : tie.MeasureT-loop
 μ-loop list table count-regs n regs₀ statics₀ i₀ regs statics i = n - i
@@ -39,8 +40,8 @@ loop-holds : tie.Need-loop-holds Inv-loop μ-loop
 unfolding regsTo staticsTo
 loop-holds c = (unrefused-none, refl, refl)
 
-cast-t14 : tie.Need-cast-t14 Inv-loop μ-loop
-cast-t14 c = omega (arith, well-sized _ _ (start (c .before) .pre .1))
+cast-t13 : tie.Need-cast-t13 Inv-loop μ-loop
+cast-t13 c = omega (arith, well-sized _ _ (start (c .before) .pre .1))
 
 returns : tie.Need-returns Inv-loop μ-loop
 unfolding recordRefusal
@@ -88,7 +89,7 @@ check-records-spec =
     μ-loop
     loop-holds
     (λ c κs. omega arith) (λ c κs. search needs)
-    cast-t14
+    cast-t13
     returns
     rename-requires
     (λ c κs. search needs)

@@ -5,6 +5,7 @@ use mathlib.Core.Path.{_≡_}
 use native.Mathlib.Omega.{arith}
 use borrow.Author.Needs.{needs}
 use lib.ListN.{length, getD}
+use Rattle.mir.specs.Inner.{currentsIn}
 use Rattle.mir.specs.Questions.{named}
 use Rattle.mir.specs.Records.{maxRegs}
 use Rattle.mir.proofs.Folds.{Holds, holds-none, holds-more, holds-stops, holds-ends, all-at, all-words, said-no, said-yes}
@@ -13,7 +14,7 @@ use Rattle.mir.proofs.questions.check_source_words.Statement.{statement
 use Rattle.mir.proofs.questions.check_source_words.Tie as tie
 
 abbrev Inv-loop : tie.InvT-loop
-Inv-loop regs from count rec j₀ j = Holds (λ k. named regs (getD rec (from + k) 0)) count j
+Inv-loop regs from count rec j₀ j = Holds (λ k. named (currentsIn regs) (getD rec (from + k) 0)) count j
 
 abbrev μ-loop : tie.MeasureT-loop
 μ-loop regs from count rec j₀ j = count - j
@@ -37,7 +38,7 @@ returns c =
     let a = at .before .args in
     let h = within (at .before) in
     let e = c .before .check-source .ensures in
-    let no = said-no (named (a .regs) (getD (a .t2) (a .from + at .loop .j) 0)) 8 e (c .if1 .taken) in
+    let no = said-no (named (currentsIn (a .regs)) (getD (a .t2) (a .from + at .loop .j) 0)) 8 e (c .if1 .taken) in
     rw (all-words, ← (holds-stops (at .loop .inv) (c .before .before .loop-test .taken) no)) (rw no at e)
 
 loop-again : tie.Need-loop-again Inv-loop μ-loop

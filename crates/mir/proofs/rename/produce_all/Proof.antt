@@ -21,12 +21,12 @@ two a = dests-told (a .before .before .dests-of .ensures) (a .x2 .given .1)
 produce-requires : tie.Need-produce-requires
 produce-requires c κs =
     let a = c .before in
-    dest-below maxRegs _ (a .before .before .before .pre .0) (one a)
+    (dest-below maxRegs _ (a .before .before .before .pre .0) (one a), omega arith)
 
 produce-requires-2 : tie.Need-produce-requires-2
 produce-requires-2 c κs =
     let a = c .before in
-    dests-below maxRegs _ (a .before .before .before .pre .0) (two a) .0
+    (dests-below maxRegs _ (a .before .before .before .pre .0) (two a) .0, omega arith)
 
 add-produce : tie.Need-add-produce
 add-produce c =
@@ -35,7 +35,7 @@ add-produce c =
 produce-requires-3 : tie.Need-produce-requires-3
 produce-requires-3 c κs =
     let a = c .before .before .before in
-    dests-below maxRegs _ (a .before .before .before .pre .0) (two a) .1
+    (dests-below maxRegs _ (a .before .before .before .pre .0) (two a) .1, rw (c .count-static .ensures) (omega (arith, one-le (a .x2 .given .0 .0))))
 
 returns : tie.Need-returns
 unfolding produced

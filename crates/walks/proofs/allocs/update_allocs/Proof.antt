@@ -5,6 +5,7 @@ use mathlib.Core.Path.{_≡_, refl}
 use borrow.Author.Needs.{needs}
 use Rattle.passes.specs.Color.{updateAllocs}
 use Rattle.passes.proofs.Actions.{in-arm}
+use Rattle.walks.specs.Slots.{allocsIn}
 use Rattle.walks.proofs.allocs.update_allocs.Statement.{statement}
 use Rattle.walks.proofs.allocs.update_allocs.Tie as tie
 
@@ -22,7 +23,7 @@ returns-2 c = rw (c .before .enum-told2 .given .1) (c .save-complex .ensures)
 returns-4 : tie.Need-returns-4
 returns-4 c =
     let a = c .before .args in
-    in-arm (λ k. a .allocs ≡ updateAllocs k (a .l) (a .x) (a .y) (a .allocs)) (0 ∷ 1 ∷ 3 ∷ 5 ∷ 7 ∷ []) (refl, (refl, (refl, (refl, (refl, tt))))) (a .action) (c .match .keys4)
+    in-arm (λ k. allocsIn (a .allocs) ≡ updateAllocs k (a .l) (a .x) (a .y) (allocsIn (a .allocs))) (0 ∷ 1 ∷ 3 ∷ 5 ∷ 7 ∷ []) (refl, (refl, (refl, (refl, (refl, tt))))) (a .action) (c .match .keys4)
 
 pub update-allocs-spec : {M : Type 1} → statement M
 update-allocs-spec =

@@ -1,5 +1,6 @@
 -- `walks::color::color` meets its contract: before each record the slices and the set are the definitions'.
 -- By what `Colouring` says of a record.
+use Rattle.mir.specs.Inner.{currentsIn}
 use Rattle.mir.proofs.Renaming.{statics-two, gens-two}
 use Prim.Native.Nat.{ℕ, _+_, _*_, _/_, _-_, _<_, _≤_}
 use mathlib.Core.Path.{_≡_, refl, sym, ap, subst, _∙_}
@@ -7,6 +8,7 @@ use native.Mathlib.Omega.{arith}
 use lib.ListN.{length}
 use Rattle.passes.specs.Color.{colorTo, foundAt}
 use Rattle.passes.specs.Contract.{coloursOf, membersOf, wordsOf}
+use Rattle.walks.specs.Slots.{allocsIn}
 use Rattle.walks.specs.Walks.{Indexed, Slices, slices, Passes, foundsTo, marked, recordStep}
 use Rattle.walks.proofs.color.Invariant.{reads-are, Call, Colouring, counted, setupOf, slicesOf, color-asks, color-gives, found-gives, read-asks, read-gives, colours-same, ends-same}
 use Rattle.walks.proofs.color.Dests.{slices-same}
@@ -20,7 +22,7 @@ use Rattle.walks.proofs.color.color.Tie as tie
 abbrev Inv-loop : tie.InvT-loop
 Inv-loop list table colours₀ ends₀ set₀ seen₀ n count regs₀ statics₀ allocs₀ members₀ i₀ colours ends set seen regs statics allocs members i =
     (i ≤ count)
-    × (Colouring n list table colours₀ ends₀ set₀ i (slices allocs colours ends) set members regs statics
+    × (Colouring n list table colours₀ ends₀ set₀ i (slices (allocsIn allocs) colours ends) set members (currentsIn regs) statics
     × (Indexed seen (colorTo (counted n list table) i .members) × (length seen ≡ length seen₀)))
 
 abbrev μ-loop : tie.MeasureT-loop
@@ -129,13 +131,13 @@ was-found-requires c κs =
 -- the slices after the record
 after : (k : tie.After-color-record Inv-loop μ-loop) →
     let last = k .color-record .last .1 .1 .1 .1 .1 .1 in
-    slices (k .color-record .result) (last .0) (last .1 .0) ≡ slicesOf (g (colored k)) (i (colored k) + 1)
+    slices (allocsIn (k .color-record .result)) (last .0) (last .1 .0) ≡ slicesOf (g (colored k)) (i (colored k) + 1)
 after k =
     let r = colored k in
     let l = turn r .loop in
     let e = k .color-record .ensures in
-    let σ = slices (l .allocs) (l .colours) (l .ends) in
-    slices-same (recordStep (g r .settings .«count_regs») (l .i) (l .statics) (l .regs) (r .record-at .result) σ) (e .0) (e .1 .0) (e .1 .1)
+    let σ = slices (allocsIn (l .allocs)) (l .colours) (l .ends) in
+    slices-same (recordStep (g r .settings .«count_regs») (l .i) (l .statics) (currentsIn (l .regs)) (r .record-at .result) σ) (e .0) (e .1 .0) (e .1 .1)
     ∙ color-gives (g r) (l .inv .1 .0) (in-list r) (r .record-at .ensures)
 
 found-is : (f : tie.After-was-found Inv-loop μ-loop) →

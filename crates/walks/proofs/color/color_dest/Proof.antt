@@ -8,6 +8,7 @@ use borrow.Author.Tests.{lt-ltb, le-ltb}
 use Rattle.passes.specs.Color.{choose}
 use Rattle.passes.proofs.Choice.{choose-found, choose-free}
 use Rattle.walks.specs.Walks.{Picks, destStep}
+use Rattle.walks.specs.Slots.{allocsIn}
 use borrow.Author.Needs.{needs}
 use Rattle.walks.proofs.color.color_dest.Statement.{statement}
 use Rattle.walks.proofs.color.color_dest.Tie as tie
@@ -48,7 +49,7 @@ slice-write-ends c = search needs
 assign-requires : tie.Need-assign-requires
 assign-requires c κs =
     let a = c .before .before .before .before .before .before .before .before in
-    let k = choose-found (a .args .n) (a .args .i) (a .args .allocs) (a .args .held) _ (sym (c .before .before .before .choose .ensures) ∙ c .before .choice .given .1) .0 in
+    let k = choose-found (a .args .n) (a .args .i) (allocsIn (a .args .allocs)) (a .args .held) _ (sym (c .before .before .before .choose .ensures) ∙ c .before .choice .given .1) .0 in
     omega (arith, k, a .pre .0)
 
 enum-known-choice-2 : tie.Need-enum-known-choice-2
@@ -63,7 +64,7 @@ slice-write-colours-2 c = search needs
 assign-requires-2 : tie.Need-assign-requires-2
 assign-requires-2 c κs =
     let a = c .before .before .before .before .before .before .before .before in
-    let k = choose-free (a .args .n) (a .args .i) (a .args .allocs) (a .args .held) _ (sym (c .before .before .before .choose .ensures) ∙ c .before .choice2 .given .1) .0 in
+    let k = choose-free (a .args .n) (a .args .i) (allocsIn (a .args .allocs)) (a .args .held) _ (sym (c .before .before .before .choose .ensures) ∙ c .before .choice2 .given .1) .0 in
     omega (arith, k, a .pre .0)
 
 enum-told : tie.Need-enum-told

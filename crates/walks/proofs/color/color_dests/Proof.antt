@@ -8,6 +8,7 @@ use Rattle.mir.proofs.Renaming.{one-le}
 use Rattle.mir.proofs.Shapes.{dests-told}
 use Rattle.walks.specs.Walks.{Slices, slices, destStep, destSteps}
 use Rattle.walks.proofs.color.Dests.{slices-same}
+use Rattle.walks.specs.Slots.{allocsIn}
 use borrow.Author.Needs.{needs}
 use Rattle.walks.proofs.color.color_dests.Statement.{statement}
 use Rattle.walks.proofs.color.color_dests.Tie as tie
@@ -98,7 +99,7 @@ returns-3 c =
     let x = k .before .before .before .before in
     let a = x .before .before .before .before .before in
     let e = k .color-dest2 .ensures in
-    let before : Slices = slices (a .args .allocs) (now (a .args .colours)) (now (a .args .ends)) in
+    let before : Slices = slices (allocsIn (a .args .allocs)) (now (a .args .colours)) (now (a .args .ends)) in
     let σ : Slices = destStep (a .args .n) (a .args .i) (a .args .next) (x .x2 .given .0 .0) (a .args .hx) before in
     let s = slices-same σ (e .0) (e .1 .0) (e .1 .1) in
     rw (two x, ← s, ← (n .count-static .ensures)) (c .before .before .before .before .color-dest3 .ensures)

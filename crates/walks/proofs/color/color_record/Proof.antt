@@ -5,6 +5,7 @@ use mathlib.Core.List.{List}
 use mathlib.Core.Path.{_≡_, refl, sym, ap, _∙_}
 use denote.Ref.{now}
 use lib.ListN.{getD}
+use Rattle.mir.specs.Inner.{currentsIn}
 use Rattle.mir.specs.declared.shape.Action.{Action}
 use Rattle.mir.specs.declared.shape.Shape.{Shape}
 use Rattle.mir.specs.Shapes.{any, shapeFor, dests}
@@ -13,13 +14,14 @@ use Rattle.passes.specs.declared.alloc.Held.{Held}
 use Rattle.passes.specs.Color.{locOf, heldBy, wantX, wantY, wanted, updateAllocs}
 use Rattle.walks.specs.Walks.{Slices, slices, destSteps, sourceWords, wantedBy, recordStep}
 use Rattle.walks.proofs.color.Sources.{partner-below}
+use Rattle.walks.specs.Slots.{allocsIn}
 use borrow.Author.Needs.{needs}
 use Rattle.walks.proofs.color.color_record.Statement.{statement}
 use Rattle.walks.proofs.color.color_record.Tie as tie
 
 -- the slices before the record
 abbrev before : tie.Start → Slices
-before a = slices (a .args .allocs) (now (a .args .colours)) (now (a .args .ends))
+before a = slices (allocsIn (a .args .allocs)) (now (a .args .colours)) (now (a .args .ends))
 
 -- where the first source is known: the call, the record's shape and its location before it
 abbrev start : tie.After-source-at → tie.Start
@@ -45,18 +47,18 @@ module _ (q : tie.After-source-at) where
 -- what the destinations are wanted with is what the definition says
 wants : (c : tie.After-want-y) →
     let a = start (source c) in
-    wanted (dests (a .args .t2)) (c .before .want-x .result) (c .want-y .result) ≡ wantedBy (a .args .regs) (a .args .t2) (before a)
+    wanted (dests (a .args .t2)) (c .before .want-x .result) (c .want-y .result) ≡ wantedBy (currentsIn (a .args .regs)) (a .args .t2) (before a)
 wants c =
     let q = source c in
     let a = start q in
     let act = shapeFor (rec q) .action in
     let l = q .before .before .loc-of .result in
     let h = c .before .before .held-by in
-    let held = h .ensures ∙ ap (heldBy (a .args .allocs)) (q .source-at .ensures) in
+    let held = h .ensures ∙ ap (heldBy (allocsIn (a .args .allocs))) (q .source-at .ensures) in
     let x = c .before .want-x .ensures
     ∙ (ap (λ k. wantX k l (h .result)) (action-is q) ∙ (ap (λ m. wantX act m (h .result)) (loc-is q) ∙ ap (wantX act (locOf (rec q))) held)) in
     let y = c .want-y .ensures ∙ (ap (λ k. wantY k l) (action-is q) ∙ ap (wantY act) (loc-is q)) in
-    let first = heldBy (a .args .allocs) (getD (sourceWords (a .args .regs) (now (a .args .colours)) (rec q)) 0 0) in
+    let first = heldBy (allocsIn (a .args .allocs)) (getD (sourceWords (currentsIn (a .args .regs)) (now (a .args .colours)) (rec q)) 0 0) in
     ap (λ k. wanted (dests (rec q)) k (c .want-y .result)) x ∙ ap (wanted (dests (rec q)) (wantX act (locOf (rec q)) first)) y
 
 array-read-shape-of : tie.Need-array-read-shape-of
@@ -120,12 +122,12 @@ returns c =
     let y = w .before .before .before .source-at2 .result in
     let l = q .before .before .loc-of .result in
     let act = shapeFor (rec q) .action in
-    let src : ℕ → ℕ = λ k. getD (sourceWords (a .args .regs) (now (a .args .colours)) (rec q)) k 0 in (
+    let src : ℕ → ℕ = λ k. getD (sourceWords (currentsIn (a .args .regs)) (now (a .args .colours)) (rec q)) k 0 in (
       c .update-allocs .ensures
-          ∙ (ap (λ k. updateAllocs k l x y (d .result)) (action-is q)
-          ∙ (ap (λ m. updateAllocs act m x y (d .result)) (loc-is q)
-          ∙ (ap (λ k. updateAllocs act (locOf (rec q)) k y (d .result)) (q .source-at .ensures)
-          ∙ (ap (λ k. updateAllocs act (locOf (rec q)) (src 0) k (d .result)) (w .before .before .before .source-at2 .ensures)
+          ∙ (ap (λ k. updateAllocs k l x y (allocsIn (d .result))) (action-is q)
+          ∙ (ap (λ m. updateAllocs act m x y (allocsIn (d .result))) (loc-is q)
+          ∙ (ap (λ k. updateAllocs act (locOf (rec q)) k y (allocsIn (d .result))) (q .source-at .ensures)
+          ∙ (ap (λ k. updateAllocs act (locOf (rec q)) (src 0) k (allocsIn (d .result))) (w .before .before .before .source-at2 .ensures)
           ∙ ap (updateAllocs act (locOf (rec q)) (src 0) (src 1)) (d .ensures .0 ∙ ap (λ ds. steps ds .allocs) (wants w)))))),
       (
         d .ensures .1 .0 ∙ ap (λ ds. steps ds .colours) (wants w),

@@ -4,6 +4,7 @@ use mathlib.Core.Path.{_≡_, sym, ap, _∙_}
 use native.Mathlib.Omega.{arith}
 use denote.Ref.{now}
 use lib.ListN.{length, getD}
+use Rattle.mir.specs.Inner.{currentsIn}
 use Rattle.mir.specs.declared.shape.Shape.{Shape}
 use Rattle.mir.specs.Records.{maxRegs, wordAt}
 use Rattle.mir.specs.Shapes.{shapeFor, sources}
@@ -37,7 +38,7 @@ returns : tie.Need-returns
 returns c =
     let a = c .before .before .before .before in
     let k : shapeFor (a .args .t2) .srcs ≤ a .args .j = rw (c .before .before .shape-of .ensures) at (c .if1 .taken) in
-    sym (source-none (a .args .t2) (len a) (sourceWord (a .args .regs) (now (a .args .colours))) (a .args .j) k)
+    sym (source-none (a .args .t2) (len a) (sourceWord (currentsIn (a .args .regs)) (now (a .args .colours))) (a .args .j) k)
 
 add-p : tie.Need-add-p
 add-p c = omega (arith, within c)
@@ -63,7 +64,7 @@ deallocate-requires c κs =
 returns-2 : tie.Need-returns-2
 returns-2 c =
     let a = c .before .before .before .before .before .before in
-    let f = sourceWord (a .args .regs) (now (a .args .colours)) in
+    let f = sourceWord (currentsIn (a .args .regs)) (now (a .args .colours)) in
     c .deallocate .ensures
     ∙ (ap (λ (s : Shape). f (wordAt (a .args .t2) (s .regs + s .dsts + a .args .j))) (c .before .before .before .before .shape-of .ensures)
     ∙ sym (source-word (a .args .t2) (len a) f (a .args .j) (rw (c .before .before .before .before .shape-of .ensures) at (c .before .before .if1 .left))))

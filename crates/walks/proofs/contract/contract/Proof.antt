@@ -5,6 +5,7 @@ use mathlib.Core.List.{List}
 use mathlib.Core.Path.{_≡_}
 use native.Mathlib.Omega.{arith}
 use lib.ListN.{length}
+use Rattle.mir.specs.Inner.{currentsIn}
 use Rattle.mir.proofs.Renaming.{gens-two}
 use Rattle.mir.specs.Records.{fixedMark}
 use Rattle.mir.specs.declared.config.Settings.{Settings}
@@ -18,7 +19,7 @@ use Rattle.walks.proofs.contract.contract.Tie as tie
 abbrev Inv-loop : tie.InvT-loop
 Inv-loop list colours ends₀ locs members out₀ seen count fixed regs₀ statics₀ tally₀ i₀ ends out regs statics tally i =
     (i ≤ count)
-    × (Walked list i regs statics
+    × (Walked list i (currentsIn regs) statics
     × ((s : Settings) (table : List ℕ) → fixed ≡ fixedMark s → Colored s list table colours ends₀ locs members → Contracting s list table ends₀ out₀ i ends out tally))
 
 abbrev μ-loop : tie.MeasureT-loop

@@ -6,6 +6,7 @@ use mathlib.Core.Path.{_≡_, refl}
 use native.Mathlib.Omega.{arith}
 use lib.Seq.{sets}
 use lib.ListN.{length, take, drop}
+use Rattle.mir.specs.Inner.{currentsIn}
 use Rattle.mir.specs.Records.{maxRegs}
 use Rattle.passes.specs.Color.{sourceWord}
 use Rattle.walks.proofs.contract.Record.{changed-next}
@@ -15,7 +16,7 @@ use Rattle.walks.proofs.contract.rewrite_words.Statement.{statement}
 use Rattle.walks.proofs.contract.rewrite_words.Tie as tie
 
 abbrev Inv-loop : tie.InvT-loop
-Inv-loop from count regs colours rec out₀ j₀ out j = (j ≤ count) × (out ≡ sets rec from (map (sourceWord regs colours) (take j (drop from rec))))
+Inv-loop from count regs colours rec out₀ j₀ out j = (j ≤ count) × (out ≡ sets rec from (map (sourceWord (currentsIn regs) colours) (take j (drop from rec))))
 
 abbrev μ-loop : tie.MeasureT-loop
 μ-loop from count regs colours rec out₀ j₀ out j = count - j
@@ -62,7 +63,7 @@ loop-again c =
     let a = c .before .before .before .before in
     let len : length (a .args .t1) ≡ 8 = a .good .0 .1 .0 .1 in (
       search needs,
-      rw (c .deallocate .ensures, b .loop .inv .1) (changed-next (sourceWord (a .args .regs) (a .args .colours .now)) (a .args .t1) (a .args .from) (a .args .count) (omega arith) (b .loop .j) (c .before .loop-test .taken)),
+      rw (c .deallocate .ensures, b .loop .inv .1) (changed-next (sourceWord (currentsIn (a .args .regs)) (a .args .colours .now)) (a .args .t1) (a .args .from) (a .args .count) (omega arith) (b .loop .j) (c .before .loop-test .taken)),
     )
 
 returns : tie.Need-returns Inv-loop μ-loop

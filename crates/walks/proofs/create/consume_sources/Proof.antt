@@ -4,6 +4,7 @@ use mathlib.Core.Path.{ap, _∙_}
 use native.Mathlib.Omega.{arith}
 use denote.Ref.{now}
 use lib.ListN.{getD, take, drop}
+use Rattle.mir.specs.Inner.{currentsIn}
 use Rattle.mir.specs.declared.shape.Shape.{Shape}
 use Rattle.mir.specs.Records.{maxRegs}
 use Rattle.mir.specs.Shapes.{sources}
@@ -38,7 +39,7 @@ unfolding sources
 returns c =
     let a = c .before .before .before .before .before .before .before .args in
     c .before .before .consume-words .ensures
-    ∙ ap (λ (s : Shape). consumed (a .regs) (a .i) (take (s .srcs) (drop (s .regs + s .dsts) (a .t2))) (now (a .ends))) (c .before .before .before .before .before .shape-of .ensures)
+    ∙ ap (λ (s : Shape). consumed (currentsIn (a .regs)) (a .i) (take (s .srcs) (drop (s .regs + s .dsts) (a .t2))) (now (a .ends))) (c .before .before .before .before .before .shape-of .ensures)
 
 pub consume-sources-spec : {M : Type 1} → statement M
 consume-sources-spec =

@@ -5,6 +5,7 @@ use mathlib.Core.List.{List}
 use mathlib.Core.Path.{_≡_, refl, ap, _∙_}
 use native.Mathlib.Omega.{arith}
 use lib.ListN.{length}
+use Rattle.mir.specs.Inner.{currentsIn}
 use Rattle.mir.specs.Shapes.{dests, sources}
 use Rattle.mir.proofs.Renaming.{gens-two, statics-two}
 use Rattle.passes.specs.Create.{consumed, endsTo, endsOf}
@@ -19,7 +20,7 @@ use Rattle.walks.proofs.create.create.Statement.{statement}
 use Rattle.walks.proofs.create.create.Tie as tie
 
 abbrev Inv-loop : tie.InvT-loop
-Inv-loop list ends₀ n regs₀ statics₀ i₀ ends regs statics i = (i ≤ n) × Walked list i regs statics × (ends ≡ over (endsTo list i) ends₀)
+Inv-loop list ends₀ n regs₀ statics₀ i₀ ends regs statics i = (i ≤ n) × Walked list i (currentsIn regs) statics × (ends ≡ over (endsTo list i) ends₀)
 
 abbrev μ-loop : tie.MeasureT-loop
 μ-loop list ends₀ n regs₀ statics₀ i₀ ends regs statics i = n - i
@@ -128,7 +129,7 @@ loop-again c =
     let b = l .before .before .before in
     let w = l .loop .inv .1 in
     let e = r .record-at .ensures in
-    let read = k .consume-sources .ensures ∙ ap (consumed (l .loop .regs) (l .loop .i) (sources (r .record-at .result))) (l .loop .inv .2) in
+    let read = k .consume-sources .ensures ∙ ap (consumed (currentsIn (l .loop .regs)) (l .loop .i) (sources (r .record-at .result))) (l .loop .inv .2) in
     let few = statics-few r in (
       search needs,
       walked-next (r .record-at .result) w e (c .before .rename .ensures) (c .count-statics .ensures),

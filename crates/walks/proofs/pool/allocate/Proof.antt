@@ -5,6 +5,7 @@ use Rattle.passes.specs.Color.{isFree, isBare, firstBelow, freeOr, plainChoice}
 use Rattle.passes.specs.declared.alloc.Choice.the-variants.{Empty}
 use mathlib.Core.Path.{_≡_, sym, ap, _∙_}
 use Rattle.walks.specs.Pools.{placed}
+use Rattle.walks.specs.Slots.{allocsIn}
 use borrow.Author.Needs.{needs}
 use Rattle.walks.proofs.pool.allocate.Statement.{statement}
 use Rattle.walks.proofs.pool.allocate.Tie as tie
@@ -14,7 +15,7 @@ unfolding plainChoice
 returns c =
     let f = c .before .before .before in
     let a = f .before .args in
-    let e : none ≡ firstBelow (λ k. isFree (a .i) (a .allocs) k && isBare (a .allocs) k) (a .n) = sym (ap placed (c .before .enum-told .given .1)) ∙ f .first .ensures in
+    let e : none ≡ firstBelow (λ k. isFree (a .i) (allocsIn (a .allocs)) k && isBare (allocsIn (a .allocs)) k) (a .n) = sym (ap placed (c .before .enum-told .given .1)) ∙ f .first .ensures in
     rw (← e) (c .allocate-free .ensures)
 
 returns-2 : tie.Need-returns-2
@@ -23,7 +24,7 @@ returns-2 c =
     let f = c .before .before .before in
     let a = f .before .args in
     let e = sym (ap placed (c .before .bare .given .1)) ∙ f .first .ensures in
-    ap (λ o. freeOr o (freeOr (firstBelow (isFree (a .i) (a .allocs)) (a .n)) Empty)) e
+    ap (λ o. freeOr o (freeOr (firstBelow (isFree (a .i) (allocsIn (a .allocs))) (a .n)) Empty)) e
 
 pub allocate-spec : {M : Type 1} → statement M
 allocate-spec =
