@@ -4,6 +4,7 @@ pub mod Cases
 pub mod Lists
 pub mod MachineCases
 pub mod PoolCases
+pub mod WideCases
 pub mod Arm
 -- renaming, colouring, the read set and contracting
 pub mod Update

@@ -1,6 +1,5 @@
--- Sixteen lists through the definitions, with what the original, amended by request 1, makes of each: the reduced list, the
--- drops, the statics, and the read set's members, whose order is document 01's rule, since the original has none. Of the list
--- with 64 colours the reduced list alone: the rest takes more steps than a check may.
+-- Fifteen lists through the definitions, with what the original, amended by request 1, makes of each: the reduced list, the
+-- drops, the statics, and the read set's members, whose order is document 01's rule, since the original has none.
 -- By computation; the right sides are printed by the importer, from what the amended copy of the original leaves.
 use Prim.Native.Nat.{ℕ}
 use mathlib.Core.Bool.{Bool, true, false}
@@ -244,22 +243,6 @@ readHalves =
     ∷ saveComplex 1 0 stack 22 ∷ load ret stack 18 ∷ loadMath 2 2 0 stack 21 ∷ loadComplex 0 1 stack 22
     ∷ complexBi 3 0 0 0 1 2 2 ∷ save 0 param 0 ∷ [])
 
--- each of 64 colours holds a location; the last one is found, and the first one is given away
-pub sixtyFour : Input
-sixtyFour =
-    input 64 0 false false false []
-    (loadComplex 0 63 param 0 ∷ loadComplex 2 61 param 2 ∷ loadComplex 4 59 param 4 ∷ loadComplex 6 57 param 6
-    ∷ loadComplex 8 55 param 8 ∷ loadComplex 10 53 param 10 ∷ loadComplex 12 51 param 12 ∷ loadComplex 14 49 param 14
-    ∷ loadComplex 16 47 param 16 ∷ loadComplex 18 45 param 18 ∷ loadComplex 20 43 param 20
-    ∷ loadComplex 22 41 param 22 ∷ loadComplex 24 39 param 24 ∷ loadComplex 26 37 param 26
-    ∷ loadComplex 28 35 param 28 ∷ loadComplex 30 33 param 30 ∷ loadComplex 32 31 param 32
-    ∷ loadComplex 34 29 param 34 ∷ loadComplex 36 27 param 36 ∷ loadComplex 38 25 param 38
-    ∷ loadComplex 40 23 param 40 ∷ loadComplex 42 21 param 42 ∷ loadComplex 44 19 param 44
-    ∷ loadComplex 46 17 param 46 ∷ loadComplex 48 15 param 48 ∷ loadComplex 50 13 param 50
-    ∷ loadComplex 52 11 param 52 ∷ loadComplex 54 9 param 54 ∷ loadComplex 56 7 param 56 ∷ loadComplex 58 5 param 58
-    ∷ loadComplex 60 3 param 60 ∷ loadComplex 62 1 param 62 ∷ load 0 param 63 ∷ loadConst 63 2 ∷ bi 2 0 63 0
-    ∷ save 0 mem 63 ∷ [])
-
 pub record StoredLists : Type 0 where
   pub named-registers :
       of namedRegisters
@@ -327,19 +310,6 @@ pub record StoredLists : Type 0 where
       ≡ answered (flat (loadComplex 0 1 mem 0 ∷ saveComplex 0 1 stack 15 ∷ saveComplex 0 1 stack 18
       ∷ saveComplex 1 1 stack 20 ∷ load ret stack 18 ∷ loadMath 2 2 0 stack 21 ∷ complexBi 3 2 2 1 0 2 2
       ∷ save 2 param 0 ∷ []))
-  pub sixty-four :
-      of sixtyFour
-      ≡ answered (flat (loadComplex 0 1 param 0 ∷ loadComplex 2 3 param 2 ∷ loadComplex 4 5 param 4
-      ∷ loadComplex 6 7 param 6 ∷ loadComplex 8 9 param 8 ∷ loadComplex 10 11 param 10 ∷ loadComplex 12 13 param 12
-      ∷ loadComplex 14 15 param 14 ∷ loadComplex 16 17 param 16 ∷ loadComplex 18 19 param 18
-      ∷ loadComplex 20 21 param 20 ∷ loadComplex 22 23 param 22 ∷ loadComplex 24 25 param 24
-      ∷ loadComplex 26 27 param 26 ∷ loadComplex 28 29 param 28 ∷ loadComplex 30 31 param 30
-      ∷ loadComplex 32 33 param 32 ∷ loadComplex 34 35 param 34 ∷ loadComplex 36 37 param 36
-      ∷ loadComplex 38 39 param 38 ∷ loadComplex 40 41 param 40 ∷ loadComplex 42 43 param 42
-      ∷ loadComplex 44 45 param 44 ∷ loadComplex 46 47 param 46 ∷ loadComplex 48 49 param 48
-      ∷ loadComplex 50 51 param 50 ∷ loadComplex 52 53 param 52 ∷ loadComplex 54 55 param 54
-      ∷ loadComplex 56 57 param 56 ∷ loadComplex 58 59 param 58 ∷ loadComplex 60 61 param 60
-      ∷ loadComplex 62 63 param 62 ∷ loadConst 0 2 ∷ bi 2 0 0 63 ∷ save 0 mem 63 ∷ []))
 
 pub record StoredAccounts : Type 0 where
   pub named-registers :
@@ -414,7 +384,7 @@ pub record StoredAccounts : Type 0 where
 
 pub stored-lists : StoredLists
 unfolding of namedRegisters moves firstFree olderHolder readByOthers droppedLoads complexMark complexLoads sameRegister
-    labelAndCall branches thirtyTwo foundHalves joiningHalves readHalves sixtyFour refusal recordRefusal recordNo fewRegisters fewArgs
+    labelAndCall branches thirtyTwo foundHalves joiningHalves readHalves refusal recordRefusal recordNo fewRegisters fewArgs
     wellSized knownKind fieldsFit wordsFit pairsFit gensFit partnerFits sourcesNamed allBelow all firstRefusal recordAt
     fixedMark gens produced renamed staticsTo regsTo shapeOf dests sources registers consumed endsTo endsOf pairsFrom
     firstBelow plainChoice choose afterDest wordFor afterDests wordsFor foundAll isMember joined colored colorStep colorTo
@@ -436,7 +406,6 @@ stored-lists =
       found-halves = refl;
       joining-halves = refl;
       read-halves = refl;
-      sixty-four = refl;
     }
 
 pub stored-accounts : StoredAccounts

@@ -102,7 +102,7 @@ fn add_longer(random: &mut Random, files: &mut Vec<Vec<u8>>) {
     lists.extend(stored_lists::two_part().map(|named| named.list));
     files.extend(lists.iter().map(|list| encode(list, set_flag(random))));
     let mut live = [33, 63, 64].map(|count_regs| all_live_list(random, count_regs, 4)).to_vec();
-    live.push(stored_lists::sixty_four().list);
+    live.push(stored_lists::every_colour_holds(MOST_REGS));
     files.extend(live.iter().map(|list| encode(list, set_flag(random))));
 }
 

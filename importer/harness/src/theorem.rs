@@ -1,7 +1,6 @@
 //! Lists as antt text, and the theorem that says what the amended copy makes of them.
 
 use crate::kinds::{LEFT, MEM, PARAM, RET, RIGHT, STACK, TEMP};
-use crate::lists::USED_REGS;
 use crate::record::WORDS;
 use crate::reduced::Reduced;
 use crate::roles::{role, words_with, Role, KINDS};
@@ -133,16 +132,11 @@ fn account(Named { name, list, .. }: &Named) -> String {
     field(name, "account", &[counts, argument(members.iter().map(member))])
 }
 
-/// The account of a list with more colours takes more steps than the checker may.
-fn is_narrow(named: &Named) -> bool {
-    named.list.settings.count_regs <= USED_REGS
-}
-
 /// The lists, then the two records of equations.
 pub fn text(lists: &[Named]) -> String {
     let definitions: Vec<String> = lists.iter().map(definition).collect();
     let reduced: String = lists.iter().map(reduced).collect();
-    let account: String = lists.iter().filter(|named| is_narrow(named)).map(account).collect();
+    let account: String = lists.iter().map(account).collect();
     let first = format!("pub record StoredLists : Type 0 where\n{reduced}");
     let second = format!("pub record StoredAccounts : Type 0 where\n{account}");
     format!("{}\n{first}\n{second}", definitions.join("\n"))

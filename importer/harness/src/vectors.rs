@@ -293,7 +293,7 @@ fn add_parts_too_short(builder: &mut Builder) {
 /// Lists of more than 32 registers, to be reduced and surveyed: a known one, some with all registers
 /// live at once, and random ones with a damaged copy, the last of which has one register too many.
 fn add_wide(builder: &mut Builder) {
-    builder.add_optimize(stored_lists::sixty_four().list);
+    builder.add_optimize(stored_lists::every_colour_holds(MOST_REGS));
     let live = live_lists(&mut builder.random);
     let mut compressed = live[0].clone();
     compressed.settings.compress = true;

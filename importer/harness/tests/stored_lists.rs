@@ -7,7 +7,7 @@ use harness::record::{Record, WORDS};
 use harness::reduced::Reduced;
 use harness::roles::{role, Role, KINDS};
 use harness::run::{both, optimize, reduced};
-use harness::stored_lists::{lists, Named};
+use harness::stored_lists::{every_colour_holds, lists, Named};
 use harness::tally::By;
 use harness::theorem::text;
 
@@ -44,14 +44,10 @@ fn times(words: &[u32], kind: u32) -> usize {
 
 #[test]
 fn fifteen_lists_that_pass() {
-    assert_eq!(lists().len(), 16);
+    assert_eq!(lists().len(), 15);
     for Named { name, list, .. } in lists() {
         assert_eq!(refusal(&list.settings, &list.words, &list.table, true), None, "{name}");
-        let most = match name {
-            "thirty-two" => 20,
-            "sixty-four" => 36,
-            _ => 10,
-        };
+        let most = if name == "thirty-two" { 20 } else { 10 };
         assert!((4..=most).contains(&list.records()), "{name}");
     }
 }
@@ -62,7 +58,7 @@ fn every_kind_and_register() {
         assert!(has(|record| record[0] == kind), "kind {kind}");
     }
     for wanted in [Role::Source, Role::Destination] {
-        for register in [0, 1, 2, 3, 31, 63, RET, TEMP, LEFT, RIGHT] {
+        for register in [0, 1, 2, 3, 31, RET, TEMP, LEFT, RIGHT] {
             let is = |record: &[u32], word| role(record[0], word) == wanted;
             let names = |r: &[u32]| (1..WORDS).any(|word| is(r, word) && r[word] == register);
             assert!(has(names), "{wanted:?} {register}");
@@ -70,10 +66,18 @@ fn every_kind_and_register() {
     }
     assert!(has(|record| record[..2] == [2, 19]), "the last UniOp");
     assert!(has(|record| record[..2] == [3, 14]), "the last BinOp");
-    for (name, count_regs) in [("thirty-two", 32), ("sixty-four", 64)] {
-        let colours = reduced(&list_of(name)).statics;
-        let is_met = |colour| colours.iter().any(|colour_end| colour_end.0 == colour);
-        assert!((0..count_regs).all(is_met), "{name}");
+}
+
+#[test]
+fn every_colour_is_there() {
+    assert_eq!(every_colour_holds(32), list_of("thirty-two"));
+    for count_regs in [32, 64] {
+        let list = every_colour_holds(count_regs);
+        assert_eq!(refusal(&list.settings, &list.words, &list.table, true), None);
+        let Reduced { statics, dropped, .. } = reduced(&list);
+        let is_met = |colour| statics.iter().any(|colour_end| colour_end.0 == colour);
+        assert!((0..count_regs).all(is_met), "{statics:?}");
+        assert_eq!(dropped, [0, 1, 0, 0], "the load of what the last colour holds");
     }
 }
 
