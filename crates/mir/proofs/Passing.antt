@@ -2,10 +2,10 @@
 -- By the answers' cases; the register questions carry over from fewer registers to more.
 use Prim.Native.Nat.{ℕ, zero, suc, _%_, _≤_, _<_}
 use mathlib.Core.Bool.{Bool, true, false, cond, _&&_}
-use mathlib.Core.List.{List, [], _∷_, _++_}
-use mathlib.Core.Path.{_≡_, refl, _∙_}
+use mathlib.Core.List.{List, [], _∷_, _++_, map}
+use mathlib.Core.Path.{_≡_, refl, ap, _∙_}
 use native.Mathlib.Omega.{arith}
-use lib.ListN.{length, getD}
+use lib.ListN.{length, getD, set}
 use lib.Dec.{ltb, leb, eqb}
 use borrow.Author.Tests.{lt-ltb, ltb-true, leb-true, eqb-true}
 use Rattle.mir.specs.declared.config.Settings.{Settings}
@@ -116,6 +116,12 @@ pub getD-any {ℓ} : {A : Type ℓ} (l : List A) (i : ℕ) (d e : A) → i < len
 getD-any [] i d e h = absurd (omega arith)
 getD-any (x ∷ l) zero d e h = refl
 getD-any (x ∷ l) (suc i) d e h = getD-any l i d e (omega arith)
+
+-- an element that is set is set in what the list is mapped to
+pub map-set {ℓ ℓ′} : {A : Type ℓ} {B : Type ℓ′} (f : A → B) (l : List A) (i : ℕ) (a : A) → map f (set l i a) ≡ set (map f l) i (f a)
+map-set f [] i a = refl
+map-set f (x ∷ l) zero a = refl
+map-set f (x ∷ l) (suc i) a = ap (λ r. f x ∷ r) (map-set f l i a)
 
 -- question 3 says how long the list and the table can be
 pub record Sized (list table : ℕ) : Type 0 where

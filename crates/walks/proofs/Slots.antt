@@ -1,11 +1,10 @@
--- The colours in plain words stand for the definitions' colours: reads and stores go through.
--- By the laws of `map`.
+-- The colours in plain words stand for the definitions' colours: reads go through.
+-- By the law of `map` at one place; a store goes through by `map-set`.
 use Prim.Native.Nat.{ℕ}
 use mathlib.Core.Bool.{Bool, true, false, cond, not}
 use mathlib.Core.List.{List}
 use mathlib.Core.Path.{_≡_, refl}
-use lib.ListN.{getD, set, List·getD-map}
-use Rattle.mir.proofs.Currents.{map-set}
+use lib.ListN.{getD, List·getD-map}
 use Rattle.passes.specs.declared.alloc.Held.the-variants.{Nothing, At}
 use Rattle.passes.specs.Color.{loc, colourAt, isNothing}
 use Rattle.walks.specs.declared.slot.Slot.{Slot}
@@ -17,9 +16,6 @@ empty = record { life = 0; full = false; loc = loc 0 0 }
 
 pub slot-at : (slots : List Slot) (c : ℕ) → colourAt (allocsIn slots) c ≡ allocIn (getD slots c empty)
 slot-at slots c = List·getD-map allocIn slots c empty
-
-pub slot-set : (slots : List Slot) (c : ℕ) (s : Slot) → allocsIn (set slots c s) ≡ set (allocsIn slots) c (allocIn s)
-slot-set slots c s = map-set allocIn slots c s
 
 -- a slot that is not full holds nothing
 pub bare-is : (s : Slot) → not (s .full) ≡ isNothing (heldIn s)

@@ -7,8 +7,6 @@
 
 use std::collections::HashMap;
 
-use oracle::{Mir, Reg};
-
 use crate::file;
 use crate::lent::{has_room, Lent, PARTS};
 use crate::lists::{List, USED_REGS};
@@ -60,7 +58,7 @@ impl Said {
         mir.populate_labels();
         let mask = used::mask(list);
         if list.settings.count_regs <= USED_REGS {
-            assert_eq!(mask as u32, original_mask(&mir), "{list:?}");
+            assert_eq!(mask as u32, used::by_original(&mir), "{list:?}");
         }
         Said { mask, labels: mir.labels }
     }
@@ -69,17 +67,6 @@ impl Said {
     fn place(&self, label: u32) -> u32 {
         self.labels.get(&label.to_string()).map_or(ABSENT, |index| *index as u32)
     }
-}
-
-/// The mask of the original's list of used registers, which names each of them once.
-fn original_mask(mir: &Mir) -> u32 {
-    let used = mir.used_registers();
-    let mask: u32 = used.iter().fold(0, |mask, reg| match reg {
-        Reg::Gen(number) => mask | (1 << number),
-        _ => panic!("{reg:?} is no Gen register"),
-    });
-    assert_eq!(mask.count_ones() as usize, used.len(), "{used:?}");
-    mask
 }
 
 /// What `survey` is to answer, whatever label it is asked for: the original runs only once.

@@ -80,7 +80,7 @@ impl Profile {
     }
 
     /// Any profile, with at most so many records and registers.
-    fn within(random: &mut Random, most_records: u32, most_regs: u32) -> Profile {
+    pub fn within(random: &mut Random, most_records: u32, most_regs: u32) -> Profile {
         let most = if random.percent(80) { most_records.min(24) } else { most_records };
         let pairs = if random.percent(30) { 0 } else { random.index(12) };
         Profile {
@@ -207,6 +207,13 @@ pub fn any_list(random: &mut Random, most_records: u32) -> List {
 pub fn narrow_list(random: &mut Random, most_records: u32) -> List {
     let profile = Profile::within(random, most_records, USED_REGS);
     any_list_of(random, profile)
+}
+
+/// A list of any profile, but with more registers than that.
+pub fn wide_list(random: &mut Random, most_records: u32) -> List {
+    let mut profile = Profile::random(random, most_records);
+    profile.settings.count_regs = random.between(USED_REGS + 1, MOST_REGS);
+    list(random, &profile)
 }
 
 fn any_list_of(random: &mut Random, profile: Profile) -> List {

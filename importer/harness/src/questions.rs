@@ -2,6 +2,7 @@
 //!
 //! This is a second statement of them: it shares nothing with the verified code.
 
+use crate::limits::MOST_REGS;
 use crate::settings::Settings;
 
 /// The number of the question that was answered no, and the record's index.
@@ -9,9 +10,13 @@ pub type Refusal = (u32, usize);
 
 const LAST_INDEX: u32 = 4_294_967_295;
 
+/// Whether each Gen register has a static.
+type Statics = [bool; MOST_REGS as usize];
+const NONE: Statics = [false; MOST_REGS as usize];
+
 /// The nine questions before reducing. `room` is the answer to the fourth, on the lent buffers.
 pub fn refusal(settings: &Settings, list: &[u32], table: &[u32], room: bool) -> Option<Refusal> {
-    if settings.count_regs > 64 {
+    if settings.count_regs > MOST_REGS {
         return Some((1, 0));
     }
     if settings.args > 65_535 {
@@ -23,7 +28,7 @@ pub fn refusal(settings: &Settings, list: &[u32], table: &[u32], room: bool) -> 
     if !room {
         return Some((4, 0));
     }
-    let mut has_static = [false; 64];
+    let mut has_static = NONE;
     for (index, record) in list.chunks_exact(8).enumerate() {
         let number =
             first_no(record, table, settings.count_regs).or_else(|| later_no(record, &has_static));
@@ -38,7 +43,7 @@ pub fn refusal(settings: &Settings, list: &[u32], table: &[u32], room: bool) -> 
 /// The questions of the operation beside the passes: 1 and 3 to 7. `room` is the answer to the
 /// fourth, on the lent parts.
 pub fn refusal_beside(count_regs: u32, list: &[u32], table: &[u32], room: bool) -> Option<Refusal> {
-    if count_regs > 64 {
+    if count_regs > MOST_REGS {
         return Some((1, 0));
     }
     if !sizes_fit(list, table) {
@@ -76,7 +81,7 @@ fn first_no(record: &[u32], table: &[u32], count_regs: u32) -> Option<u32> {
 }
 
 /// Questions 8 and 9 on one record.
-fn later_no(record: &[u32], has_static: &[bool; 64]) -> Option<u32> {
+fn later_no(record: &[u32], has_static: &Statics) -> Option<u32> {
     if (record[0] == 7 || record[0] == 8) && record[4] == LAST_INDEX {
         return Some(8);
     }
@@ -88,9 +93,9 @@ fn later_no(record: &[u32], has_static: &[bool; 64]) -> Option<u32> {
 }
 
 /// A written Gen register has a static from then on; Label and Call forget them all.
-fn rename(record: &[u32], has_static: &mut [bool; 64]) {
+fn rename(record: &[u32], has_static: &mut Statics) {
     if record[0] == 12 || record[0] == 15 {
-        *has_static = [false; 64];
+        *has_static = NONE;
     }
     for register in destinations(record) {
         if *register <= 255 {

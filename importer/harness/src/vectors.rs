@@ -23,7 +23,7 @@ use crate::damage::Fault::{CountRegs, Kind, OddTable, PartialRecord};
 use crate::file::bytes;
 use crate::lent::{room, Lent, PARTS};
 use crate::limits::MOST_REGS;
-use crate::lists::{all_live_list, list, narrow_list, List, Profile, USED_REGS};
+use crate::lists::{all_live_list, list, narrow_list, wide_list, List, Profile, USED_REGS};
 use crate::random::Random;
 use crate::settings::{set_flag, Settings};
 use crate::{answers, limits, stored_lists, worked_examples};
@@ -300,7 +300,7 @@ fn add_wide(builder: &mut Builder) {
     live.into_iter().for_each(|list| builder.add_reduced_and_surveyed(list));
     builder.add_survey_of_any(compressed);
     for turn in 0..6 {
-        let list = wide_list(&mut builder.random);
+        let list = wide_list(&mut builder.random, 12);
         builder.add_reduced_and_surveyed(list.clone());
         let too_many = Settings { count_regs: MOST_REGS + 1, ..list.settings };
         let copy = match turn {
@@ -322,13 +322,6 @@ fn live_lists(random: &mut Random) -> Vec<List> {
         list
     };
     sizes.map(live).collect()
-}
-
-/// A random list of 33 registers or more.
-fn wide_list(random: &mut Random) -> List {
-    let count_regs = random.between(USED_REGS + 1, MOST_REGS);
-    let settings = Settings { count_regs, ..Settings::default() };
-    list(random, &Profile { settings, ..Profile::plain(12) })
 }
 
 /// The whole file.

@@ -170,18 +170,22 @@ fn labelled_lists_have_many_labels() {
     assert!(few > labels * 4 / 5, "{few} of {labels}");
 }
 
-/// Locations collide: there is something to drop in many of the lists, and much is kept.
+/// Locations collide: there is something to drop in many of the lists, and much is kept. More
+/// registers leave fewer locations to be found again.
 #[test]
 fn many_lists_have_something_to_drop() {
-    let mut random = Random::new(14);
-    let (mut before, mut after) = (0, 0);
-    for _ in 0..2_000 {
-        let mut profile = Profile::random(&mut random, 80);
-        profile.weights[0] = 0;
-        profile.weights[5] += 1;
-        let list = list(&mut random, &profile);
-        before += list.words.len();
-        after += run::optimize(&list).len();
+    for (most_regs, part) in [(USED_REGS, 20), (MOST_REGS, 25)] {
+        let mut random = Random::new(14);
+        let (mut before, mut after) = (0, 0);
+        for _ in 0..2_000 {
+            let mut profile = Profile::within(&mut random, 80, most_regs);
+            profile.weights[0] = 0;
+            profile.weights[5] += 1;
+            let list = list(&mut random, &profile);
+            before += list.words.len();
+            after += run::optimize(&list).len();
+        }
+        let dropped = before - after;
+        assert!(dropped < before / 2 && dropped > before / part, "{dropped} of {before} words");
     }
-    assert!(after > before / 2 && after < before - before / 25, "{after} of {before} words left");
 }

@@ -7,17 +7,7 @@ use harness::random::Random;
 use harness::record::Record;
 use harness::run;
 use harness::settings::Settings;
-use harness::used::mask;
-use oracle::Reg;
-
-/// The original's list of used registers, as a mask.
-fn original(list: &List) -> u32 {
-    let used = run::mir(list).expect("a list that passes has a meaning").used_registers();
-    used.into_iter().fold(0, |mask, reg| match reg {
-        Reg::Gen(number) => mask | 1 << number,
-        _ => panic!("{reg:?} is no Gen register"),
-    })
-}
+use harness::used::{by_original, mask};
 
 #[test]
 fn narrow_lists_use_what_the_original_says() {
@@ -27,7 +17,8 @@ fn narrow_lists_use_what_the_original_says() {
     for _ in 0..lists {
         let list = narrow_list(&mut random, 80);
         let mask = mask(&list);
-        assert_eq!(mask as u32, original(&list), "{list:?}");
+        let mir = run::mir(&list).expect("a list that passes has a meaning");
+        assert_eq!(mask as u32, by_original(&mir), "{list:?}");
         if list.settings.compress {
             compressed += 1;
         } else {

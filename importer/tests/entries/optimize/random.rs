@@ -5,7 +5,7 @@ use crate::arbitrary::arbitrary_list;
 use crate::support::shown;
 use harness::damage::damaged;
 use harness::limits::MOST_REGS;
-use harness::lists::{all_live_list, any_list, list, two_part_list, List, Profile, USED_REGS};
+use harness::lists::{all_live_list, any_list, list, two_part_list, wide_list, List, Profile};
 use harness::random::Random;
 use harness::settings::Settings;
 use harness::tally::Tally;
@@ -57,13 +57,6 @@ fn passing_lists() {
 #[test]
 fn more_passing_lists() {
     passing(502, how_many(1_000_000) / 2);
-}
-
-/// A list of any profile, but with more than 32 registers.
-fn wide_list(random: &mut Random, most_records: u32) -> List {
-    let mut profile = Profile::random(random, most_records);
-    profile.settings.count_regs = random.between(USED_REGS + 1, MOST_REGS);
-    list(random, &profile)
 }
 
 #[test]

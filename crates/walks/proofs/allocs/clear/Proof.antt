@@ -4,11 +4,12 @@ use Prim.Native.Nat.{_≤_, _<_, _-_}
 use mathlib.Core.Path.{_≡_, sym, ap, _∙_}
 use native.Mathlib.Omega.{arith}
 use lib.ListN.{length, set, length-map}
+use Rattle.mir.proofs.Passing.{map-set}
 use Rattle.mir.specs.Records.{maxRegs}
 use Rattle.passes.specs.Color.{alloc, colourAt, without}
 use Rattle.passes.specs.declared.alloc.Held.the-variants.{Nothing}
 use Rattle.walks.specs.Slots.{allocIn, allocsIn}
-use Rattle.walks.proofs.Slots.{slot-at, slot-set}
+use Rattle.walks.proofs.Slots.{slot-at}
 use Rattle.walks.proofs.Over.{mappedTo, mapped-zero, mapped-at, mapped-next, mapped-all}
 use borrow.Author.Needs.{needs}
 use Rattle.walks.proofs.allocs.clear.Statement.{statement}
@@ -32,7 +33,7 @@ loop-again c =
     let f = without (b .before .args .l) in
     let h : k < length all = rw (length-map (b .before .args .allocs) allocIn) (omega (arith, inv .1, c .before .before .loop-test .taken)) in
     let e = ap f (sym (slot-at (b .loop .out) k) ∙ (ap (λ xs. colourAt xs k) (inv .2) ∙ mapped-at f all k (alloc 0 Nothing) h)) in
-    let stored = slot-set (b .loop .out) k (c .without .result)
+    let stored = map-set allocIn (b .loop .out) k (c .without .result)
     ∙ (ap (λ xs. set xs k (allocIn (c .without .result))) (inv .2) ∙ ap (set (mappedTo f all k) k) (c .without .ensures ∙ e)) in
     (search needs, inv .1, stored ∙ mapped-next f all k (alloc 0 Nothing) h)
 

@@ -1,11 +1,10 @@
 -- `walks::color::deallocate` meets its contract: the register's current static says which case of the definition holds.
-use Prim.Native.Nat.{_<_}
-use mathlib.Core.Path.{_≡_, sym, _∙_}
+use mathlib.Core.Path.{_≡_, _∙_}
 use borrow.Author.Tests.{lt-ltb, le-ltb}
-use lib.ListN.{length, getD}
+use lib.ListN.{getD}
 use Rattle.mir.specs.declared.rename.Current.the-variants.{Static, Unset}
 use Rattle.mir.specs.Inner.{currentsIn}
-use Rattle.mir.proofs.Currents.{current-at}
+use Rattle.mir.proofs.Currents.{current-read}
 use borrow.Author.Needs.{needs}
 use Rattle.walks.proofs.color.deallocate.Statement.{statement}
 use Rattle.walks.proofs.color.deallocate.Tie as tie
@@ -17,8 +16,7 @@ read : (k : tie.After-current-of) →
 read k =
     let e = k .before in
     let s = e .before .before in
-    let h : s .args .w < length (s .args .t1) = rw (s .good .0 .1 .0 .1) (s .pre .0 (e .if1 .left)) in
-    current-at (s .args .t1) (s .args .w) h ∙ sym (k .current-of .ensures)
+    current-read (s .args .t1) (s .args .w) (rw (s .good .0 .1 .0 .1) (s .pre .0 (e .if1 .left))) (k .current-of .ensures)
 
 returns : tie.Need-returns
 returns c = rw (le-ltb _ _ (c .if1 .taken))

@@ -1,5 +1,4 @@
 -- `walks::slot::held_in` meets its contract: the branch's test picks the case.
-use borrow.Author.Needs.{needs}
 use Rattle.walks.proofs.slot.held_in.Statement.{statement}
 use Rattle.walks.proofs.slot.held_in.Tie as tie
 
