@@ -1,5 +1,5 @@
 /*
- * The C entries of the machine-list allocator. docs/FORMAT.md explains records, settings and the nine questions.
+ * The C entries of the machine-list allocator. docs/FORMAT.md explains records, settings and the questions.
  *
  * A list is records of 8 words of 32 bits each, a table is pairs of words that LoadArgs records name.
  *
@@ -15,7 +15,7 @@
  * by a test:
  *
  *   rudzaviks_survey                                       1,024
- *   rudzaviks_optimize, the list being refused             2,048
+ *   rudzaviks_optimize, the list being refused            18,432
  *   rudzaviks_optimize, 4,096 records or 65,536           34,816
  *   rudzaviks_reduce                                      92,160
  */
@@ -45,7 +45,7 @@ uint64_t rudzaviks_survey(
     uint32_t *parts, size_t parts_len);
 
 /*
- * Reduces a list. Answers the number of records that are left. All nine questions are put; the fourth asks for at least
+ * Reduces a list. Answers the number of records that are left. All questions are put; the fourth asks for at least
  * these words, of which those that are not written stay as they were:
  *
  *   out       list_len                      starts with the reduced list
@@ -70,7 +70,7 @@ uint64_t rudzaviks_optimize(
  *
  * All words are 32 bits, lowest byte first, at any address. The file is count_regs, args and the flags complex, arm and
  * compress; the pair count and the pairs; the record count and the records. If a count is over 512, or the file is too
- * short or too long for its counts, the answer is 3 at 0, ahead of question 1. Then all nine questions are put; the
+ * short or too long for its counts, the answer is 3 at 0, ahead of question 1. Then all questions are put; the
  * fourth asks for an output of at least 4 + 32 x the file's record count bytes. The output then starts with the number
  * of records that are left and these records; its other bytes stay as they were.
  */

@@ -10,6 +10,7 @@ use std::ptr::null_mut;
 use std::slice;
 
 use harness::file::{encode, room};
+use harness::kinds::{branch, branch_if, label, load_const, mov, nop, RET};
 use harness::lists::{list, List, Profile};
 use harness::random::Random;
 use harness::settings::Settings;
@@ -17,7 +18,7 @@ use rudzaviks::ffi::{optimize_word, reduce_word, survey_word, Buffers, PARTS};
 
 /// What the documents state, in bytes.
 const SURVEY: usize = 1_024;
-const REFUSED: usize = 2_048;
+const REFUSED: usize = 18_432;
 const REDUCED: usize = 34_816;
 const FILE: usize = 92_160;
 
@@ -97,11 +98,18 @@ fn passing(records: usize) -> List {
     list(&mut Random::new(records as u64), &Profile { settings: WIDE, ..Profile::plain(records) })
 }
 
-/// The last record reads a register without a static.
-fn refused(records: usize) -> List {
+/// A list whose last record is refused: by 9 for a register without a static, by 15 for one that was
+/// written before a BranchIf, or by 16 for a label that no Label has.
+fn refused(records: usize, number: u64) -> List {
+    let last = match number {
+        9 => [nop(), label(0), mov(0, 63)],
+        15 => [load_const(63, 0), branch_if(RET, 0, 0), mov(0, 63)],
+        _ => [nop(), label(0), branch(65_535)],
+    };
     let mut list = passing(records);
-    list.record_mut(records - 2).copy_from_slice(&[15, 0, 0, 0, 0, 0, 0, 0]);
-    list.record_mut(records - 1).copy_from_slice(&[4, 0, 63, 0, 0, 0, 0, 0]);
+    for (at, record) in (records - 3..records).zip(last) {
+        list.record_mut(at).copy_from_slice(&record);
+    }
     list
 }
 
@@ -120,9 +128,12 @@ fn optimize(what: &str, least: usize, most: usize, list: &List) -> u64 {
 fn a_refusal_takes_little() {
     let none = List { settings: Settings { count_regs: 65, ..WIDE }, ..passing(0) };
     assert_eq!(optimize("refused by 1", 0, REFUSED, &none), 1 << 32);
-    for records in [2, 4_096, 65_536] {
-        let word = optimize("refused by 9", REFUSED / 2, REFUSED, &refused(records));
-        assert_eq!(word, (9 << 32) | (records as u64 - 1));
+    for number in [9, 15, 16] {
+        for records in [3, 4_096, 65_536] {
+            let (what, list) = (format!("refused by {number}"), refused(records, number));
+            let word = optimize(&what, REFUSED / 2, REFUSED, &list);
+            assert_eq!(word, (number << 32) | (records as u64 - 1));
+        }
     }
 }
 
@@ -137,7 +148,8 @@ fn a_list_takes_the_same_however_long_it_is() {
 
 #[test]
 fn a_file() {
-    for (list, number) in [(passing(512), 0), (refused(512), 9), (passing(0), 0)] {
+    let refused = [9, 15, 16].map(|number| (refused(512, number), number));
+    for (list, number) in [(passing(512), 0), (passing(0), 0)].into_iter().chain(refused) {
         let file = encode(&list, 1);
         let mut out = vec![0; room(&list)];
         let mut word = 0;

@@ -12,8 +12,11 @@ const SAMPLE: &str = concat!(env!("CARGO_MANIFEST_DIR"), "/samples/volume.txt");
 
 const TWO_PART: &str = concat!(env!("CARGO_MANIFEST_DIR"), "/samples/two_part.txt");
 
-/// A list that is reduced as the original does it, and then computes something else.
-const NOT_PROMISED: &str = concat!(env!("CARGO_MANIFEST_DIR"), "/samples/branch.txt");
+/// A list with a loop.
+const BRANCH: &str = concat!(env!("CARGO_MANIFEST_DIR"), "/samples/branch.txt");
+
+/// A list that is refused: the original reduces it, and then it computes something else.
+const PAST_BRANCH: &str = concat!(env!("CARGO_MANIFEST_DIR"), "/samples/past_branch.txt");
 
 const COMMANDS: [&str; 5] = ["reduce", "check", "survey", "assemble", "disassemble"];
 
@@ -122,16 +125,40 @@ fn the_readme_shows_what_the_samples_give() {
     let output = run(&["reduce", SAMPLE], b"").succeeds();
     let shown = indented(output.out().lines());
     assert!(readme.contains(&shown), "the README should have:\n{shown}");
-    for sample in [TWO_PART, NOT_PROMISED] {
+    for sample in [TWO_PART, BRANCH] {
         let output = run(&["reduce", sample], b"").succeeds();
         let lists = output.out().lines().skip_while(|line| !line.starts_with("line"));
         let shown = indented(lists.take_while(|line| !line.is_empty()));
         assert!(readme.contains(&shown), "the README should have:\n{shown}");
     }
-    let output = run(&["survey", NOT_PROMISED], b"").succeeds();
+    let output = run(&["survey", BRANCH], b"").succeeds();
     let shown = indented(output.out().lines().skip_while(|line| !line.is_empty()));
     let command = "    ./rudzaviks survey importer/samples/branch.txt\n";
     assert!(readme.contains(&format!("{command}{shown}")), "the README should have:\n{shown}");
+    let refused = run(&["reduce", PAST_BRANCH], b"").err;
+    let shown = refused.replace(env!("CARGO_MANIFEST_DIR"), "importer");
+    let shown = indented(shown.lines());
+    assert!(readme.contains(&shown), "the README should have:\n{shown}");
+}
+
+/// What a try works out stays in registers; past the branch it is loaded again.
+#[test]
+fn the_sample_with_a_loop_is_shown_before_and_after() {
+    let output = run(&["reduce", BRANCH], b"").succeeds();
+    lines_fit(output.out());
+    for (number, mark, after) in [
+        (19, '<', "dropped: nothing kept reads Stack[16], at or above the fixed mark"),
+        (27, '<', "dropped: Mem[2] is already in %2"),
+        (28, '<', "dropped: Stack[16] is already in %0"),
+        (33, '|', "if %3 goto 7"),
+        (37, ' ', "%1 := Mem[2]"),
+    ] {
+        let mut lines = output.out().lines().map(str::trim_start);
+        let line = lines.find(|line| line.starts_with(&format!("{number}  "))).expect("its line");
+        assert!(line.ends_with(&format!(" {mark} {after}")), "{line}");
+    }
+    let counts = "22 instructions before, 19 after; dropped: 2 loads, 1 save\n";
+    assert!(output.out().ends_with(counts), "{}", output.out());
 }
 
 #[test]
@@ -159,7 +186,7 @@ fn a_file_is_reduced_as_its_text_is() {
     assert_eq!(plain.out(), of_file.out());
     assert_eq!(text::parse(plain.out()).expect("a list").list.len(), 19);
     let checked = run_on("check", plain.out()).succeeds();
-    assert_eq!(checked.out(), "standard input: passes all nine questions\n");
+    assert_eq!(checked.out(), "standard input: passes all eleven questions\n");
     let shown = run(&["reduce", "-"], &file).succeeds();
     assert!(shown.out().contains("\nrecord  before"), "{}", shown.out());
     lines_fit(shown.out());
@@ -223,6 +250,42 @@ fn a_refusal_is_explained_with_the_line() {
 }
 
 #[test]
+fn a_refused_branch_is_explained_with_the_line() {
+    let told =
+        "%0 was written at line 4, but not since the branch at line 5, past which no general \
+                register is kept\n";
+    for command in ["reduce", "check"] {
+        run(&[command, PAST_BRANCH], b"").fails(
+            1,
+            &[
+                "past_branch.txt:7: refused by question 15 at record 3: it reads a general register",
+                "\n    7 | Mem[2] := %0\n      |           ^\n",
+                told,
+            ],
+        );
+    }
+    let own = "settings count_regs=2\n%1 := Mem[0]\nif %1 goto 7\nnop\nif not %1 goto 7\n7:\n";
+    let shown =
+        "\n    5 | if not %1 goto 7\n      |        ^\n%1 was written at line 2, but not since";
+    run_on("check", own).fails(1, &["question 15 at record 3", shown, "the branch at line 3"]);
+    let lost = "settings count_regs=1\ngoto 7\n7:\nif %t goto 17 # 17\ngoto 8\n";
+    let shown = "\n    4 | if %t goto 17 # 17\n      |            ^\nthe list has no label 17;";
+    let at = "standard input:4: refused by question 16 at record 2: no label has the number";
+    run_on("check", lost).fails(1, &[at, shown, "`survey` shows those that it has"]);
+    let none = run_on("reduce", "settings count_regs=1\nend\ngoto 0\n");
+    none.fails(1, &["input:3: refused by question 16 at record 1", "the list has no labels"]);
+}
+
+/// A file has records and no lines.
+#[test]
+fn a_refused_branch_of_a_file_is_explained_with_the_record() {
+    let file = run(&["assemble", PAST_BRANCH], b"").succeeds().out;
+    let shown = "\n    3 | Mem[2] := %0\n      |           ^\n%0 was written at record 0, but not";
+    let refused = run(&["check", "-"], &file);
+    refused.fails(1, &["input: refused by question 15 at record 3", shown, "at record 1, past"]);
+}
+
+#[test]
 fn refusals_of_every_other_question_are_explained() {
     run_on("check", "settings count_regs=65\n").fails(1, &["question 1", "count_regs is 65"]);
     run_on("check", "settings count_regs=1 args=65536\n")
@@ -276,12 +339,12 @@ label 9: line 10, the last of 2
 label 12: absent, though line 4 jumps to it
 ";
     assert_eq!(shown.out(), expected);
-    let sample = run(&["survey", NOT_PROMISED], b"").succeeds();
+    let sample = run(&["survey", BRANCH], b"").succeeds();
     let expected = "\
-settings count_regs=2 args=0
+settings count_regs=4 args=0
 
-2 of 2 registers used: %0 %1
-label 7: line 8
+4 of 4 registers used: %0 %1 %2 %3
+label 7: line 17
 ";
     assert_eq!(sample.out(), expected);
 }
@@ -360,10 +423,12 @@ fn a_list_that_may_not_be_reduced_is_surveyed() {
         (2, "settings count_regs=1 args=65536\n%0 := Mem[0]\n"),
         (8, "settings count_regs=1\n(%0 + %0*im) := Mem[4294967295]\n"),
         (9, "settings count_regs=1\nMem[1] := %0\n%0 := Mem[0]\n"),
+        (15, "settings count_regs=1\n%0 := Mem[0]\nif %t goto 7\nMem[1] := %0\n7:\n"),
+        (16, "settings count_regs=1\n%0 := Mem[0]\ngoto 7\n"),
     ] {
         run_on("check", list).fails(1, &[&format!("refused by question {question}")]);
         let shown = run_on("survey", list).succeeds();
-        assert!(shown.out().ends_with("\n\n1 of 1 register used: %0\nno labels\n"), "{list}");
+        assert!(shown.out().contains("\n\n1 of 1 register used: %0\n"), "{list}");
     }
 }
 

@@ -19,9 +19,9 @@ use Rattle.passes.specs.declared.alloc.Outcome.the-variants.{Kept}
 use Rattle.passes.specs.Color.{setup}
 use Rattle.passes.specs.Contract.{reduced, coloursOf, membersOf, wordsOf, countOf, countsOf}
 use Rattle.passes.specs.Create.{endsOf}
-use Rattle.passes.specs.Machine.{Passing, RunsEqual}
+use Rattle.passes.specs.Machine.{Passing, Preserves}
 use Rattle.passes.proofs.Lengths.{reduced-length}
-use Rattle.passes.proofs.Preserved.{runs-equal}
+use Rattle.passes.proofs.Preserved.{list-preserved}
 use Rattle.allocator.specs.declared.Answer.the-variants.{Reduced, Refused}
 use Rattle.walks.specs.declared.Counts.{Counts}
 use Rattle.walks.specs.Lent.{Lent}
@@ -84,7 +84,7 @@ module _ {s : Settings} {list table : List ℕ} {held : Lent} where
         colours = w .colours ∙ sym (ap (λ u. left u (coloursOf s list table) (held .colours)) v);
         ends = w .ends ∙ sym (ap (λ u. left u (endsOf list) (held .ends)) v);
         set = w .set ∙ sym (ap (λ u. left u (wordsOf (membersOf s list table)) (held .set)) v);
-        preserved = λ p straight. subst (RunsEqual s list) (sym kept) (runs-equal s list table (passing s list table held p) straight);
+        preserved = λ p. subst (Preserves s list) (sym kept) (list-preserved s list table (passing s list table held p));
       }
     where
       kept : take (recordsIn (report (Reduced r)) * 8) (now .out) ≡ reduced s list table

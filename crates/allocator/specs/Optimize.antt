@@ -12,7 +12,7 @@ use Rattle.mir.specs.Answers.{Report, answered, refused, unless, over}
 use Rattle.mir.specs.Questions.{refusal}
 use Rattle.passes.specs.Contract.{reduced, coloursOf, membersOf, wordsOf, countsOf}
 use Rattle.passes.specs.Create.{endsOf}
-use Rattle.passes.specs.Machine.{AllStraight, RunsEqual}
+use Rattle.passes.specs.Machine.{Preserves}
 use Rattle.allocator.specs.declared.Answer.{Answer}
 use Rattle.allocator.specs.declared.Answer.the-variants.{Reduced, Refused}
 use Rattle.walks.specs.Lent.{Lent, valuesIn}
@@ -28,7 +28,7 @@ unfoldable pub roomIn : List ℕ → List ℕ → Lent → Bool
 roomIn list table held =
     roomFor (length list) (length table) (length (held .out)) (length (held .colours)) (length (held .ends)) (length (held .set))
 
--- the nine questions, with these slices
+-- the questions, with these slices
 unfoldable pub verdictOf : Settings → List ℕ → List ℕ → Lent → Verdict
 verdictOf s list table held = refusal (roomIn list table held) s list table
 
@@ -54,9 +54,8 @@ pub record Optimized (s : Settings) (list table : List ℕ) (held now : Lent) (g
   pub colours : now .colours ≡ left (verdictOf s list table held) (coloursOf s list table) (held .colours)
   pub ends : now .ends ≡ left (verdictOf s list table held) (endsOf list) (held .ends)
   pub set : now .set ≡ left (verdictOf s list table held) (wordsOf (membersOf s list table)) (held .set)
-  -- section 5: the run of an accepted list of straight kinds, and the run of the first records that the
-  -- output now holds, as many as the answer counts, end equal
+  -- section 5 and request 10: the runs of an accepted list, and those of the first records that the output now holds, as many as
+  -- the answer counts
   pub preserved :
       verdictOf s list table held ≡ verdict.Passed
-      → AllStraight list
-      → RunsEqual s list (take (recordsIn (report given) * 8) (now .out))
+      → Preserves s list (take (recordsIn (report given) * 8) (now .out))

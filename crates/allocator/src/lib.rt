@@ -1,4 +1,4 @@
-// The allocator: `optimize` puts the nine questions to a list and shortens one that passes (the Rust's allocator.rs, whose
+// The allocator: `optimize` puts the questions to a list and shortens one that passes (the Rust's allocator.rs, whose
 // passes are in crate walks).
 ghost use mathlib.Core.Path.{_≡_};
 ghost use Rattle.walks.specs.Lent.{lent};

@@ -1,4 +1,5 @@
 -- Laws that several functions' proofs, and the crates above, cite.
+pub mod BranchCases
 pub mod Clash
 pub mod Currents
 pub mod Folds
@@ -10,3 +11,4 @@ pub mod Records
 pub mod Renaming
 pub mod Shapes
 pub mod Surveys
+pub mod Targets

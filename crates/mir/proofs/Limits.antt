@@ -10,9 +10,10 @@ use lib.ListN.{length, getD, set, replicate}
 use Rattle.mir.specs.declared.config.Settings.{Settings}
 use Rattle.mir.specs.declared.questions.Verdict.{Verdict}
 use Rattle.mir.specs.declared.questions.Verdict.the-variants.{Passed, Refused}
-use Rattle.mir.specs.Folds.{allBelow, all, firstRefusal}
+use Rattle.mir.specs.Branches.{isLabel, isBranch, labelOf, pastTo}
+use Rattle.mir.specs.Folds.{allBelow, anyBelow, all, orElse, firstRefusal}
 use Rattle.mir.specs.Questions.{refusal, refusalBeside, sizesRefusal, recordRefusal, shapeRefusal, recordNo, shapeNo, fewRegisters, fewArgs, wellSized}
-use Rattle.mir.specs.Questions.{knownKind, fieldsFit, wordsFit, pairsFit, gensFit, partnerFits, sourcesNamed}
+use Rattle.mir.specs.Questions.{knownKind, fieldsFit, wordsFit, pairsFit, gensFit, partnerFits, sourcesNamed, sourcesSince, branchRefusal}
 use Rattle.mir.specs.Records.{recordAt}
 use Rattle.mir.specs.Renaming.{gens, produced, renamed, staticsTo, regsTo}
 use Rattle.mir.specs.Shapes.{row, shapeOf, dests, sources, registers}
@@ -20,11 +21,12 @@ use Rattle.mir.proofs.Records.{flat}
 
 -- ---- one record
 
--- 5 registers, of which Gen 4 has a static, and three pairs, of one space each; the record stands at index 2
+-- 5 registers, of which Gen 4 has a static, and three pairs, of one space each; the record stands at index 2, and after it the
+-- Labels that the branches among these records go to
 pub of : List ℕ → Verdict
 of rec =
     refusal true (record { «count_regs» = 5; args = 0; complex = false; arm = false; compress = false })
-    (flat (row 9 4 0 0 0 0 0 0 ∷ row 0 0 0 0 0 0 0 0 ∷ rec ∷ []))
+    (flat (row 9 4 0 0 0 0 0 0 ∷ row 0 0 0 0 0 0 0 0 ∷ rec ∷ row 15 200 0 0 0 0 0 0 ∷ row 15 4294967295 0 0 0 0 0 0 ∷ []))
     (0 ∷ 4294967295 ∷ 1 ∷ 4294967295 ∷ 2 ∷ 4294967295 ∷ [])
 
 -- one record of each kind: every word as large as it may be, registers being named ones
@@ -160,7 +162,7 @@ pub record ListLimits : Type 0 where
   pub two : refusal false (settings 64 65536) ragged [] ≡ Refused 2 0
   pub three-list : most false ragged [] ≡ Refused 3 0
   pub three-table : most false (row 21 0 0 0 0 0 0 0) (0 ∷ []) ≡ Refused 3 0
-  pub longest : (list table : List ℕ) → length list ≡ 524288 → length table ≡ 65536 → most true list table ≡ recordRefusal table 64 list
+  pub longest : (list table : List ℕ) → length list ≡ 524288 → length table ≡ 65536 → most true list table ≡ orElse (recordRefusal table 64 list) (branchRefusal list)
   pub list-too-long : (list table : List ℕ) → length list ≡ 524296 → most false list table ≡ Refused 3 0
   pub table-too-long : (list table : List ℕ) → length table ≡ 65538 → most false list table ≡ Refused 3 0
   pub four : most false (row 21 0 0 0 0 0 0 0) [] ≡ Refused 4 0
@@ -189,7 +191,7 @@ pub record ListLimits : Type 0 where
 
 -- the lengths at their limits, for any list and table
 module _ (list table : List ℕ) where
-  longest-passes : length list ≡ 524288 → length table ≡ 65536 → most true list table ≡ recordRefusal table 64 list
+  longest-passes : length list ≡ 524288 → length table ≡ 65536 → most true list table ≡ orElse (recordRefusal table 64 list) (branchRefusal list)
   unfolding refusal fewRegisters fewArgs wellSized
   longest-passes h k = rw (h, k)
 
@@ -203,8 +205,8 @@ module _ (list table : List ℕ) where
 
 pub limit-cases : WordLimits × RegisterLimits × ListLimits
 unfolding of oneMore asGens refusal refusalBeside sizesRefusal recordRefusal shapeRefusal recordNo shapeNo fewRegisters fewArgs wellSized
-    knownKind fieldsFit wordsFit pairsFit gensFit partnerFits sourcesNamed allBelow all firstRefusal recordAt gens produced renamed
-    staticsTo regsTo shapeOf dests sources registers
+    knownKind fieldsFit wordsFit pairsFit gensFit partnerFits sourcesNamed sourcesSince branchRefusal isLabel isBranch labelOf pastTo
+    allBelow anyBelow all firstRefusal recordAt gens produced renamed staticsTo regsTo shapeOf dests sources registers
 limit-cases = (
   record {
     passing = refl;

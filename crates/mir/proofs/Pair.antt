@@ -10,8 +10,9 @@ use lib.ListN.{length, take, drop}
 use Rattle.mir.specs.declared.questions.Verdict.{Verdict}
 use Rattle.mir.specs.declared.questions.Verdict.the-variants.{Passed, Refused}
 use Rattle.mir.specs.Answers.{Report, answered, refused, unless}
-use Rattle.mir.specs.Beside.{usedMask, labelAt, lastBelow, parts, surveyOf}
-use Rattle.mir.specs.Folds.{firstNo, refusedAt, orElse}
+use Rattle.mir.specs.Beside.{usedMask, parts, surveyOf}
+use Rattle.mir.specs.Branches.{labelAt}
+use Rattle.mir.specs.Folds.{firstNo, refusedAt, orElse, lastBelow}
 use Rattle.mir.specs.Questions.{fewRegisters, wellSized, shapeRefusal, sizesRefusal, refusalBeside}
 use Rattle.mir.specs.Records.{maxRegs, records}
 

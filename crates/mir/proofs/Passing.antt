@@ -11,9 +11,10 @@ use borrow.Author.Tests.{lt-ltb, ltb-true, leb-true, eqb-true}
 use Rattle.mir.specs.declared.config.Settings.{Settings}
 use Rattle.mir.specs.declared.questions.Verdict.the-variants.{Passed, Refused}
 use Rattle.mir.specs.declared.rename.Current.{Current}
-use Rattle.mir.specs.Folds.{all, firstNo, refusedAt}
-use Rattle.mir.specs.Questions.{fewRegisters, fewArgs, wellSized, knownKind, fieldsFit, genFits, gensFit, partnerFits, sourcesNamed}
-use Rattle.mir.specs.Questions.{shapeNo, recordNo, recordBy, recordRefusal, sizesRefusal, refusal}
+use Rattle.mir.specs.Branches.{pastTo}
+use Rattle.mir.specs.Folds.{all, firstNo, refusedAt, orElse}
+use Rattle.mir.specs.Questions.{fewRegisters, fewArgs, wellSized, knownKind, fieldsFit, genFits, gensFit, partnerFits, sourcesNamed, sourcesSince}
+use Rattle.mir.specs.Questions.{shapeNo, recordNo, recordBy, recordRefusal, lands, branchBy, branchRefusal, sizesRefusal, refusal}
 use Rattle.mir.specs.Records.{isGen, maxRegs, records, recordAt}
 use Rattle.mir.specs.Renaming.{regsTo}
 use Rattle.mir.specs.Shapes.{registers}
@@ -52,8 +53,8 @@ module _ (table : List ℕ) (countRegs : ℕ) (rec : List ℕ) where
   abbrev shapeAsked : List (ℕ × Bool)
   shapeAsked = (5, knownKind rec) ∷ (6, fieldsFit table rec) ∷ (7, gensFit countRegs rec) ∷ []
 
-  abbrev lastAsked : List Current → List (ℕ × Bool)
-  lastAsked regs = (8, partnerFits rec) ∷ (9, sourcesNamed regs rec) ∷ []
+  abbrev lastAsked : List Current → ℕ → List (ℕ × Bool)
+  lastAsked regs past = (8, partnerFits rec) ∷ (9, sourcesNamed regs rec) ∷ (15, sourcesSince past regs rec) ∷ []
 
   -- a record that questions 5 to 7 pass
   pub record ShapePasses : Type 0 where
@@ -67,30 +68,32 @@ module _ (table : List ℕ) (countRegs : ℕ) (rec : List ℕ) where
       let y = each-yes shapeAsked tt e in
       record { kind = y .0; fields = y .1 .0; gens = y .1 .1 .0 }
 
-  -- a record that questions 5 to 9 pass
-  pub record Passes (regs : List Current) : Type 0 where
+  -- a record that questions 5 to 9 and 15 pass
+  pub record Passes (regs : List Current) (past : ℕ) : Type 0 where
     pub shape : ShapePasses
     pub partner : partnerFits rec ≡ true
     pub sources : sourcesNamed regs rec ≡ true
+    pub since : sourcesSince past regs rec ≡ true
 
-  pub record-passes : (regs : List Current) → recordNo table countRegs regs rec ≡ 0 → Passes regs
+  pub record-passes : (regs : List Current) (past : ℕ) → recordNo table countRegs regs past rec ≡ 0 → Passes regs past
   unfolding recordNo
-  record-passes regs e =
-      let y = each-yes (shapeAsked ++ lastAsked regs) tt e in
+  record-passes regs past e =
+      let y = each-yes (shapeAsked ++ lastAsked regs past) tt e in
       record {
         shape = record { kind = y .0; fields = y .1 .0; gens = y .1 .1 .0 };
         partner = y .1 .1 .1 .0;
         sources = y .1 .1 .1 .1 .0;
+        since = y .1 .1 .1 .1 .1 .0;
       }
 
-  -- a no to questions 5 to 7 is the record's, and after three times yes the last two decide
-  pub shape-stops : (regs : List Current) (n : ℕ) → n ≡ shapeNo table countRegs rec → (n ≡ 0 → ⊥) → n ≡ recordNo table countRegs regs rec
+  -- a no to questions 5 to 7 is the record's, and after three times yes the last ones decide
+  pub shape-stops : (regs : List Current) (past n : ℕ) → n ≡ shapeNo table countRegs rec → (n ≡ 0 → ⊥) → n ≡ recordNo table countRegs regs past rec
   unfolding shapeNo recordNo
-  shape-stops regs n e h = e ∙ first-stops shapeAsked (lastAsked regs) (λ z. h (e ∙ z))
+  shape-stops regs past n e h = e ∙ first-stops shapeAsked (lastAsked regs past) (λ z. h (e ∙ z))
 
-  pub then-last : (regs : List Current) → ShapePasses → recordNo table countRegs regs rec ≡ firstNo (lastAsked regs)
+  pub then-last : (regs : List Current) (past : ℕ) → ShapePasses → recordNo table countRegs regs past rec ≡ firstNo (lastAsked regs past)
   unfolding recordNo
-  then-last regs p = rw (p .kind, p .fields, p .gens)
+  then-last regs past p = rw (p .kind, p .fields, p .gens)
 
 -- what holds of each word, weakened
 all-weaker : (p q : ℕ → Bool) → ((w : ℕ) → p w ≡ true → q w ≡ true) → (ws : List ℕ) → all p ws ≡ true → all q ws ≡ true
@@ -162,7 +165,8 @@ pub record ListPasses (s : Settings) (list table : List ℕ) : Type 0 where
   pub few : s .«count_regs» ≤ maxRegs
   pub args : s .args ≤ 65535
   pub sized : Sized (length list) (length table)
-  pub each : (i : ℕ) → i < records list → Passes table (s .«count_regs») (recordAt list i) (regsTo list i)
+  pub each : (i : ℕ) → i < records list → Passes table (s .«count_regs») (recordAt list i) (regsTo list i) (pastTo list i)
+  pub landing : (i : ℕ) → i < records list → lands list (recordAt list i) ≡ true
 
 -- a refusal is no pass
 pub not-passed : (number index : ℕ) → Refused number index ≡ Passed → ⊥
@@ -172,15 +176,17 @@ module _ (room : Bool) (s : Settings) (list table : List ℕ) (h : refusal room 
   abbrev asked : List (ℕ × Bool)
   asked = (1, fewRegisters (s .«count_regs»)) ∷ (2, fewArgs (s .args)) ∷ (3, wellSized (length list) (length table)) ∷ (4, room) ∷ []
 
-  -- questions 1 to 4 are answered with yes, and no record is refused
-  passed : (Yes asked) × (recordRefusal table (s .«count_regs») list ≡ Passed)
+  -- questions 1 to 4 are answered with yes, no record is refused, and every branch has its Label
+  passed : (Yes asked) × (recordRefusal table (s .«count_regs») list ≡ Passed) × (branchRefusal list ≡ Passed)
   unfolding refusal
   passed =
-      let p = both-passed (refusedAt (firstNo asked) 0) (recordRefusal table (s .«count_regs») list) h in
-      (each-yes asked tt (none-refused _ 0 (p .0)), p .1)
+      let each = recordRefusal table (s .«count_regs») list in
+      let p = both-passed (refusedAt (firstNo asked) 0) (orElse each (branchRefusal list)) h in
+      let q = both-passed each (branchRefusal list) (p .1) in
+      (each-yes asked tt (none-refused _ 0 (p .0)), q .0, q .1)
 
   pub list-passes : ListPasses s list table
-  unfolding recordRefusal fewRegisters fewArgs
+  unfolding recordRefusal branchRefusal fewRegisters fewArgs
   list-passes =
       let y = passed .0 in
       let n = s .«count_regs» in
@@ -188,7 +194,8 @@ module _ (room : Bool) (s : Settings) (list table : List ℕ) (h : refusal room 
         few = leb-true n maxRegs (y .0);
         args = leb-true (s .args) 65535 (y .1 .0);
         sized = well-sized (length list) (length table) (y .1 .1 .0);
-        each = λ i l. record-passes table n (recordAt list i) (regsTo list i) (refusal-none (recordBy table n list) (records list) i (passed .1) l);
+        each = λ i l. record-passes table n (recordAt list i) (regsTo list i) (pastTo list i) (refusal-none (recordBy table n list) (records list) i (passed .1) l);
+        landing = λ i l. each-yes ((16, lands list (recordAt list i)) ∷ []) tt (refusal-none (branchBy list) (records list) i (passed .2) l) .0;
       }
 
   pub room-passes : room ≡ true

@@ -7,8 +7,9 @@ use mathlib.Core.List.{List, [], _∷_, map}
 use mathlib.Core.Path.{_≡_, refl}
 use lib.Count.{onesIn}
 use Rattle.mir.specs.Answers.{Report, answered, refused}
-use Rattle.mir.specs.Beside.{counted, bits, maskOf, getDst, maskTo, usedMask, isLabel, lastBelow, parts, surveyOf}
-use Rattle.mir.specs.Folds.{allBelow, all, firstRefusal}
+use Rattle.mir.specs.Beside.{counted, bits, maskOf, getDst, maskTo, usedMask, parts, surveyOf}
+use Rattle.mir.specs.Branches.{isLabel}
+use Rattle.mir.specs.Folds.{allBelow, all, firstRefusal, lastBelow}
 use Rattle.mir.specs.Questions.{fewRegisters, wellSized, knownKind, fieldsFit, wordsFit, pairsFit, gensFit, shapeNo, shapeRefusal, sizesRefusal, refusalBeside}
 use Rattle.mir.specs.Records.{recordAt}
 use Rattle.mir.specs.Shapes.{row, shapeOf, dests, sources, registers}

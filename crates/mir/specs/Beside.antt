@@ -1,6 +1,6 @@
 -- Public, document 01, section 6, and document 02, request 13: the used registers and the place of a label, in one survey.
 use Prim.Native.Nat.{ℕ, zero, suc, _-_, _^_}
-use mathlib.Core.Bool.{Bool, true, cond, _&&_}
+use mathlib.Core.Bool.{Bool, true, cond}
 use mathlib.Core.List.{List, [], _∷_}
 use lib.Bits.{bitOr}
 use lib.Count.{onesIn}
@@ -10,10 +10,11 @@ use Rattle.mir.specs.declared.Surveyed.the-variants.{Registers, Refused}
 use Rattle.mir.specs.declared.Place.{Place}
 use Rattle.mir.specs.declared.Place.the-variants.{At, Absent}
 use Rattle.mir.specs.Answers.{Report, answered, refused, unless}
-use Rattle.mir.specs.Folds.{all}
+use Rattle.mir.specs.Branches.{labelAt}
+use Rattle.mir.specs.Folds.{all, lastBelow}
 use Rattle.mir.specs.Questions.{refusalBeside}
 use Rattle.mir.specs.Records.{records, recordAt, wordAt, isGen, maxRegs}
-use Rattle.mir.specs.Shapes.{branchIf, label, dests, sources}
+use Rattle.mir.specs.Shapes.{branchIf, dests, sources}
 
 -- the registers that a record counts: its destinations, and BranchIf its condition
 unfoldable pub counted : List ℕ → List ℕ
@@ -41,18 +42,6 @@ maskTo list (suc i) = bitOr (maskTo list i) (getDst (recordAt list i))
 
 unfoldable pub usedMask : Bool → List ℕ → ℕ
 usedMask compress list = cond compress every (maskTo list (records list))
-
--- a record is a Label with the given number
-unfoldable pub isLabel : ℕ → List ℕ → Bool
-isLabel name rec = eqb (wordAt rec 0) label && eqb (wordAt rec 1) name
-
-abbrev pub labelAt : List ℕ → ℕ → ℕ → Bool
-labelAt list name i = isLabel name (recordAt list i)
-
--- the last number below n for which p holds, if there is one
-unfoldable pub lastBelow : (ℕ → Bool) → ℕ → List ℕ
-lastBelow p zero = []
-lastBelow p (suc n) = cond (p n) (n ∷ []) (lastBelow p n)
 
 -- the parts of the answer: the mask; how many registers it names, which is its ones; and the index of the last Label with the
 -- number, or no value where it is absent

@@ -1,6 +1,6 @@
 -- Public: the words that the definitions are put in: each of, the first no, the last such.
 use Prim.Native.Nat.{ℕ, zero, suc}
-use mathlib.Core.Bool.{Bool, true, cond, _&&_}
+use mathlib.Core.Bool.{Bool, true, false, cond, _&&_, _||_}
 use mathlib.Core.List.{List, [], _∷_}
 use Rattle.mir.specs.declared.questions.Verdict.{Verdict}
 use Rattle.mir.specs.declared.questions.Verdict.the-variants.{Passed, Refused}
@@ -9,6 +9,11 @@ use Rattle.mir.specs.declared.questions.Verdict.the-variants.{Passed, Re
 unfoldable pub allBelow : ℕ → (ℕ → Bool) → Bool
 allBelow zero p = true
 allBelow (suc n) p = allBelow n p && p n
+
+-- p holds of some number below n
+unfoldable pub anyBelow : ℕ → (ℕ → Bool) → Bool
+anyBelow zero p = false
+anyBelow (suc n) p = anyBelow n p || p n
 
 -- p holds of each word
 unfoldable pub all : (ℕ → Bool) → List ℕ → Bool
@@ -34,3 +39,8 @@ orElse (Refused number index) v = Refused number index
 unfoldable pub firstRefusal : (ℕ → ℕ) → ℕ → Verdict
 firstRefusal by zero = Passed
 firstRefusal by (suc n) = orElse (firstRefusal by n) (refusedAt (by n) n)
+
+-- the last number below n for which p holds, if there is one
+unfoldable pub lastBelow : (ℕ → Bool) → ℕ → List ℕ
+lastBelow p zero = []
+lastBelow p (suc n) = cond (p n) (n ∷ []) (lastBelow p n)

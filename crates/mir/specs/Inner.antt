@@ -1,12 +1,21 @@
 -- Inner: no promise is made in these words.
-use Prim.Native.Nat.{ℕ}
-use mathlib.Core.Bool.{cond}
+use Prim.Native.Nat.{ℕ, _*_, _/_, _%_, _<_, _≤_}
+use mathlib.Core.Bool.{Bool, true, false, cond, not, _&&_}
 use mathlib.Core.List.{List, [], _∷_, map}
+use mathlib.Core.Path.{_≡_}
 use lib.Dec.{eqb}
+use lib.ListN.{getD}
+use Rattle.mir.specs.declared.branches.Target.{Target}
+use Rattle.mir.specs.declared.branches.Target.the-variants.{To, Nowhere}
+use Rattle.mir.specs.declared.questions.Verdict.the-variants.{Passed}
 use Rattle.mir.specs.declared.rename.Current.{Current}
 use Rattle.mir.specs.declared.rename.Current.the-variants.{Static, Unset}
 use Rattle.mir.specs.declared.shape.Dests.{Dests}
 use Rattle.mir.specs.declared.shape.Dests.the-variants.{Nothing, One, Two}
+use Rattle.mir.specs.Branches.{isBranch, labelOf}
+use Rattle.mir.specs.Folds.{firstRefusal}
+use Rattle.mir.specs.Questions.{hasLabel, branchBy}
+use Rattle.mir.specs.Records.{records, recordAt}
 use Rattle.mir.specs.Shapes.{any}
 
 -- the destinations as the code hands them on
@@ -21,3 +30,55 @@ currentIn word = cond (eqb word any) Unset (Static word)
 
 abbrev pub currentsIn : List ℕ → List Current
 currentsIn words = map currentIn words
+
+-- where a record goes, as the code has it
+abbrev pub targetOf : List ℕ → Target
+targetOf rec = cond (isBranch rec) (To (labelOf rec)) Nowhere
+
+-- the table of numbers: a number's slot, and a number is in the table if it stands there
+unfoldable pub slotOf : ℕ → ℕ
+slotOf number = number * 2654435761 / 1048576 % 4096
+
+abbrev pub holds : List ℕ → ℕ → Bool
+holds table number = eqb (getD table (slotOf number) 0) number
+
+-- each slot has a number that belongs elsewhere
+abbrev pub Empty : List ℕ → Type 0
+Empty table = (s : ℕ) → s < 4096 → slotOf (getD table s 0) ≡ s → ⊥
+
+-- record by record, none below i is refused by question 16
+pub record Landed (list : List ℕ) (i : ℕ) : Type 0 where
+  pub within : i ≤ records list
+  pub passed : firstRefusal (branchBy list) i ≡ Passed
+
+-- the number of a branch is put into the table, if its slot is free: `done` says whether it is there
+pub record Put (rec before after : List ℕ) (done : Bool) : Type 0 where
+  pub kept : (number : ℕ) → holds before number ≡ true → holds after number ≡ true
+  pub there : done ≡ true → isBranch rec ≡ true → holds after (labelOf rec) ≡ true
+  pub taken : done ≡ false → slotOf (getD before (slotOf (labelOf rec)) 0) ≡ slotOf (labelOf rec)
+
+-- the number of each branch between two records is in the table
+pub record Collected (list : List ℕ) (from until : ℕ) (table : List ℕ) : Type 0 where
+  pub more : from < until
+  pub within : until ≤ records list
+  pub held : (i : ℕ) → from ≤ i → i < until → isBranch (recordAt list i) ≡ true → holds table (labelOf (recordAt list i)) ≡ true
+
+-- the numbers for which p holds are taken out of the table
+abbrev pub Without : (ℕ → Bool) → List ℕ → List ℕ → Type 0
+Without p before after = (number : ℕ) → holds after number ≡ (holds before number && not (p number))
+
+-- a branch whose number is in the table
+abbrev pub isLeft : List ℕ → List ℕ → Bool
+isLeft table rec = cond (isBranch rec) (holds table (labelOf rec)) false
+
+-- between two records, the numbers of the branches without a Label are those in the table
+abbrev pub Settled : List ℕ → ℕ → ℕ → List ℕ → Type 0
+Settled list from until table =
+    (i : ℕ) → from ≤ i → i < until → isBranch (recordAt list i) ≡ true
+    → holds table (labelOf (recordAt list i)) ≡ not (hasLabel list (labelOf (recordAt list i)))
+
+-- the first branch before `until` without a Label, or `until`
+pub record FirstLeft (list : List ℕ) (until i : ℕ) : Type 0 where
+  pub before : i ≤ until
+  pub passed : firstRefusal (branchBy list) i ≡ Passed
+  pub bad : i < until → branchBy list i ≡ 16

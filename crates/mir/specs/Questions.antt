@@ -1,4 +1,5 @@
--- Public, document 01, section 7: the questions put to a list before it is reduced, and the refusal that they come to.
+-- Public, document 01, section 7, and document 02, request 10: the questions put to a list before it is reduced, and the
+-- refusal that they come to.
 use Prim.Native.Nat.{ℕ, _+_, _*_, _/_, _%_}
 use mathlib.Core.Bool.{Bool, true, false, cond, _&&_}
 use mathlib.Core.List.{List, [], _∷_}
@@ -8,7 +9,8 @@ use Rattle.mir.specs.declared.config.Settings.{Settings}
 use Rattle.mir.specs.declared.rename.Current.{Current}
 use Rattle.mir.specs.declared.rename.Current.the-variants.{Static, Unset}
 use Rattle.mir.specs.declared.questions.Verdict.{Verdict}
-use Rattle.mir.specs.Folds.{allBelow, all, firstNo, refusedAt, orElse, firstRefusal}
+use Rattle.mir.specs.Branches.{labelAt, isBranch, labelOf, pastTo}
+use Rattle.mir.specs.Folds.{allBelow, anyBelow, all, firstNo, refusedAt, orElse, firstRefusal}
 use Rattle.mir.specs.Records.{records, recordAt, wordAt, isGen, maxRegs}
 use Rattle.mir.specs.Shapes.{any, spc, loadArgs, shapeFor, registers, sources}
 use Rattle.mir.specs.Renaming.{regsTo}
@@ -70,19 +72,31 @@ named regs w = cond (isGen w) (isStatic (getD regs w Unset)) true
 unfoldable pub sourcesNamed : List Current → List ℕ → Bool
 sourcesNamed regs rec = all (named regs) (sources rec)
 
--- what record i is refused by, or 0: 5 before 6 before 7, and for a list that is to be reduced before 8 before 9
+-- 15. Was each Gen source written since the last BranchIf? `past` is how many statics were written before it
+abbrev pub isSince : ℕ → Current → Bool
+isSince past (Static s) = leb past s
+isSince past Unset = true
+
+abbrev pub since : ℕ → List Current → ℕ → Bool
+since past regs w = cond (isGen w) (isSince past (getD regs w Unset)) true
+
+unfoldable pub sourcesSince : ℕ → List Current → List ℕ → Bool
+sourcesSince past regs rec = all (since past regs) (sources rec)
+
+-- what record i is refused by, or 0: 5 before 6 before 7, and for a list that is to be reduced before 8 before 9 before 15
 unfoldable pub shapeNo : List ℕ → ℕ → List ℕ → ℕ
 shapeNo table countRegs rec =
     firstNo ((5, knownKind rec) ∷ (6, fieldsFit table rec) ∷ (7, gensFit countRegs rec) ∷ [])
 
-unfoldable pub recordNo : List ℕ → ℕ → List Current → List ℕ → ℕ
-recordNo table countRegs regs rec =
+unfoldable pub recordNo : List ℕ → ℕ → List Current → ℕ → List ℕ → ℕ
+recordNo table countRegs regs past rec =
     firstNo
     ((5, knownKind rec)
     ∷ (6, fieldsFit table rec)
     ∷ (7, gensFit countRegs rec)
     ∷ (8, partnerFits rec)
     ∷ (9, sourcesNamed regs rec)
+    ∷ (15, sourcesSince past regs rec)
     ∷ [])
 
 -- record by record
@@ -90,7 +104,7 @@ abbrev pub shapeBy : List ℕ → ℕ → List ℕ → ℕ → ℕ
 shapeBy table countRegs list i = shapeNo table countRegs (recordAt list i)
 
 abbrev pub recordBy : List ℕ → ℕ → List ℕ → ℕ → ℕ
-recordBy table countRegs list i = recordNo table countRegs (regsTo list i) (recordAt list i)
+recordBy table countRegs list i = recordNo table countRegs (regsTo list i) (pastTo list i) (recordAt list i)
 
 unfoldable pub shapeRefusal : List ℕ → ℕ → List ℕ → Verdict
 shapeRefusal table countRegs list = firstRefusal (shapeBy table countRegs list) (records list)
@@ -98,8 +112,21 @@ shapeRefusal table countRegs list = firstRefusal (shapeBy table countRegs list) 
 unfoldable pub recordRefusal : List ℕ → ℕ → List ℕ → Verdict
 recordRefusal table countRegs list = firstRefusal (recordBy table countRegs list) (records list)
 
--- the questions that come before any record, and then record by record; `room` is the answer to question 4, which
--- belongs to the operation that lends the buffers
+-- 16. Has each Branch and BranchIf a Label with its number? It is put once every record has passed
+abbrev pub hasLabel : List ℕ → ℕ → Bool
+hasLabel list name = anyBelow (records list) (labelAt list name)
+
+abbrev pub lands : List ℕ → List ℕ → Bool
+lands list rec = cond (isBranch rec) (hasLabel list (labelOf rec)) true
+
+abbrev pub branchBy : List ℕ → ℕ → ℕ
+branchBy list i = firstNo ((16, lands list (recordAt list i)) ∷ [])
+
+unfoldable pub branchRefusal : List ℕ → Verdict
+branchRefusal list = firstRefusal (branchBy list) (records list)
+
+-- the questions that come before any record, then record by record, and then question 16; `room` is the answer to
+-- question 4, which belongs to the operation that lends the buffers
 unfoldable pub refusal : Bool → Settings → List ℕ → List ℕ → Verdict
 refusal room s list table =
     orElse
@@ -111,7 +138,7 @@ refusal room s list table =
     ∷ (4, room)
     ∷ []))
     0)
-    (recordRefusal table (s .«count_regs») list)
+    (orElse (recordRefusal table (s .«count_regs») list) (branchRefusal list))
 
 -- section 6, as request 13 amends it: the survey of a list puts questions 1, 3 and 5 to 7 only, and where the answer is
 -- written into a lent slice, question 4 after 3

@@ -36,6 +36,9 @@ call = 12
 abbrev pub label : ℕ
 label = 15
 
+abbrev pub branch : ℕ
+branch = 16
+
 abbrev pub branchIf : ℕ
 branchIf = 17
 

@@ -1,4 +1,5 @@
 // Records, the questions put to a list before it is reduced, and what stands beside the passes (the Rust's mir.rs).
+pub mod branches;
 pub mod config;
 pub mod questions;
 pub mod record;
@@ -20,7 +21,8 @@ ghost use mathlib.Core.List.{[], _∷_};
 ghost use mathlib.Core.Path.{_≡_};
 ghost use lib.ListN.{length};
 ghost use Rattle.mir.specs.Answers.{unless};
-ghost use Rattle.mir.specs.Beside.{maskOf, getDst, every, isLabel, placeIn, parts, surveyOf, surveyReport};
+ghost use Rattle.mir.specs.Beside.{maskOf, getDst, every, placeIn, parts, surveyOf, surveyReport};
+ghost use Rattle.mir.specs.Branches.{isLabel};
 ghost use Rattle.mir.specs.Questions.{gensFit, wellSized, shapeRefusal};
 ghost use Rattle.mir.specs.Records.{maxRegs};
 

@@ -1,5 +1,6 @@
 // The questions before reducing (document 01, section 7).
 
+use crate::branches::check_branches;
 use crate::config::MAX_REGS;
 use crate::config::Settings;
 use crate::record::record_at;
@@ -8,16 +9,20 @@ use crate::rename::UNSET;
 use crate::rename::count_statics;
 use crate::rename::current_of;
 use crate::rename::rename;
+use crate::shape::BRANCH_IF;
 use crate::shape::LOAD_ARGS;
 use crate::shape::shape_of;
 ghost use Prim.Native.Nat.{_+_, _≤_, _<_};
 ghost use mathlib.Core.Bool.{cond, true};
+ghost use mathlib.Core.List.{[], _∷_};
 ghost use mathlib.Core.Path.{_≡_};
+ghost use lib.Dec.{eqb};
 ghost use lib.ListN.{length, take, drop};
-ghost use Rattle.mir.specs.Folds.{all};
+ghost use Rattle.mir.specs.Folds.{all, firstNo};
 ghost use Rattle.mir.specs.Inner.{currentsIn};
-ghost use Rattle.mir.specs.Questions.{wellSized, wordsFit, pairsFit, fieldsFit, genFits, gensFit, partnerFits, named, sourcesNamed, shapeNo, recordNo, recordRefusal, sizesRefusal, refusal};
-ghost use Rattle.mir.specs.Records.{maxRegs};
+ghost use Rattle.mir.specs.Questions.{wellSized, wordsFit, pairsFit, fieldsFit, genFits, gensFit, partnerFits, named, sourcesNamed, since, sourcesSince, shapeNo, recordNo, recordRefusal, sizesRefusal, refusal};
+ghost use Rattle.mir.specs.Records.{wordAt, maxRegs};
+ghost use Rattle.mir.specs.Shapes.{branchIf};
 
 // Whether a list passes; a refusal has the question's number and the index of the first bad record.
 pub enum Verdict {
@@ -148,54 +153,71 @@ pub fn check_shape(rec: [u32; 8], table: &[u32], count_regs: u32) -> u32
     0
 }
 
-// Question 9, of one source word: 9 where it is a Gen without a static, else 0.
-fn check_source(regs: [u32; MAX_REGS], w: u32) -> u32
+// Questions 9 and 15, of one source word: 9 where it is a Gen without a static, 15 where its static is one of the `past` that were
+// written before a BranchIf, else 0.
+fn check_source(regs: [u32; MAX_REGS], past: u32, w: u32) -> u32
     requires { ⌜ (w < 256 → w < maxRegs) ⌝ }
-    ensures { λ r. ⌜ r ≡ cond (named (currentsIn regs) w) 0 9 ⌝ }
+    ensures { λ r. ⌜ r ≡ firstNo ((9, named (currentsIn regs) w) ∷ (15, since past (currentsIn regs) w) ∷ []) ⌝ }
 {
     if 256 <= w {
         return 0;
     }
     let r = w as usize;
     let current = current_of(regs[r]);
-    let Current::Static(_) = current else {
+    let Current::Static(s) = current else {
         return 9;
     };
-    0
+    if s < past { 15 } else { 0 }
 }
 
-// Question 9, of the `count` source words from `from` on.
-fn check_source_words(regs: [u32; MAX_REGS], rec: [u32; 8], from: usize, count: usize) -> u32
+// Questions 9 and 15, of the `count` source words from `from` on: a 9 comes before every 15.
+fn check_source_words(
+    regs: [u32; MAX_REGS],
+    past: u32,
+    rec: [u32; 8],
+    from: usize,
+    count: usize,
+) -> u32
     requires { ⌜ from + count ≤ 8 ⌝ }
     requires { ⌜ all (genFits maxRegs) (take count (drop from rec)) ≡ true ⌝ }
-    ensures { λ r. ⌜ r ≡ cond (all (named (currentsIn regs)) (take count (drop from rec))) 0 9 ⌝ }
+    ensures { λ r. ⌜ r ≡ firstNo ((9, all (named (currentsIn regs)) (take count (drop from rec))) ∷ (15, all (since past (currentsIn regs)) (take count (drop from rec))) ∷ []) ⌝ }
 {
+    let mut late = 0;
     let mut j = 0;
     while j < count {
-        let by = check_source(regs, rec[from + j]);
+        let by = check_source(regs, past, rec[from + j]);
+        if by == 9 {
+            return 9;
+        }
         if by != 0 {
-            return by;
+            late = by;
         }
         j += 1;
     }
-    0
+    late
 }
 
-// Question 9.
-fn check_sources(regs: [u32; MAX_REGS], rec: [u32; 8]) -> u32
+// Questions 9 and 15.
+fn check_sources(regs: [u32; MAX_REGS], past: u32, rec: [u32; 8]) -> u32
     requires { ⌜ gensFit maxRegs rec ≡ true ⌝ }
-    ensures { λ r. ⌜ r ≡ cond (sourcesNamed (currentsIn regs) rec) 0 9 ⌝ }
+    ensures { λ r. ⌜ r ≡ firstNo ((9, sourcesNamed (currentsIn regs) rec) ∷ (15, sourcesSince past (currentsIn regs) rec) ∷ []) ⌝ }
 {
     let s = shape_of(rec[0]);
     let from = s.regs + s.dsts;
     let count = s.srcs;
-    check_source_words(regs, rec, from, count)
+    check_source_words(regs, past, rec, from, count)
 }
 
-// What a record is refused by, or 0: questions 5 to 9.
-fn check_record(rec: [u32; 8], table: &[u32], count_regs: u32, regs: [u32; MAX_REGS]) -> u32
+// What a record is refused by, or 0: questions 5 to 9 and 15.
+fn check_record(
+    rec: [u32; 8],
+    table: &[u32],
+    count_regs: u32,
+    regs: [u32; MAX_REGS],
+    past: u32,
+) -> u32
     requires { ⌜ «count_regs» ≤ maxRegs ⌝ }
-    ensures { λ r. ⌜ r ≡ recordNo (now (table .entry)) «count_regs» (currentsIn regs) rec ⌝ }
+    ensures { λ r. ⌜ r ≡ recordNo (now (table .entry)) «count_regs» (currentsIn regs) past rec ⌝ }
 {
     let by = check_shape(rec, table, count_regs);
     if by != 0 {
@@ -204,7 +226,7 @@ fn check_record(rec: [u32; 8], table: &[u32], count_regs: u32, regs: [u32; MAX_R
     if !partner_fits(rec) {
         return 8;
     }
-    check_sources(regs, rec)
+    check_sources(regs, past, rec)
 }
 
 // Questions 1, 3 and 4, which come before any record of a list that is surveyed; `room` is the answer to question 4.
@@ -223,7 +245,7 @@ pub fn check_sizes(list: usize, table: usize, count_regs: u32, room: bool) -> Ve
     Verdict::Passed
 }
 
-// The nine questions; `room` is the answer to question 4, which the operation that lends the buffers gives.
+// All questions; `room` is the answer to question 4, which the operation that lends the buffers gives.
 pub fn check(list: &[u32], table: &[u32], settings: Settings, room: bool) -> Verdict
     ensures { λ r. ⌜ r ≡ refusal room settings (now (list .entry)) (now (table .entry)) ⌝ }
 {
@@ -239,10 +261,20 @@ pub fn check(list: &[u32], table: &[u32], settings: Settings, room: bool) -> Ver
     if !room {
         return Verdict::Refused(4, 0);
     }
-    check_records(list, table, settings.count_regs)
+    match check_records(list, table, settings.count_regs) {
+        Verdict::Passed => check_branches(list),
+        Verdict::Refused(number, index) => Verdict::Refused(number, index),
+    }
 }
 
-// Questions 5 to 9, record by record.
+// How many statics were written before the last BranchIf, once a record has been passed; `statics` were there before it.
+fn past_after(rec: [u32; 8], statics: u32, past: u32) -> u32
+    ensures { λ r. ⌜ r ≡ cond (eqb (wordAt rec 0) branchIf) statics past ⌝ }
+{
+    if rec[0] == BRANCH_IF { statics } else { past }
+}
+
+// Questions 5 to 9 and 15, record by record.
 fn check_records(list: &[u32], table: &[u32], count_regs: u32) -> Verdict
     requires { ⌜ «count_regs» ≤ maxRegs ⌝ }
     requires { ⌜ wellSized (length (now list)) (length (now table)) ≡ true ⌝ }
@@ -251,15 +283,17 @@ fn check_records(list: &[u32], table: &[u32], count_regs: u32) -> Verdict
     let n = list.len() / 8;
     let mut regs = [UNSET; MAX_REGS];
     let mut statics = 0;
+    let mut past = 0;
     let mut i = 0;
     while i < n {
         let rec = record_at(list, i);
-        let by = check_record(rec, table, count_regs, regs);
+        let by = check_record(rec, table, count_regs, regs, past);
         if by != 0 {
             return Verdict::Refused(by, i as u32);
         }
         let next = rename(regs, rec, statics);
         regs = next;
+        past = past_after(rec, statics, past);
         statics += count_statics(rec);
         i += 1;
     }

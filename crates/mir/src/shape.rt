@@ -55,6 +55,8 @@ pub const CALL: u32 = 12;
 
 pub const LABEL: u32 = 15;
 
+pub const BRANCH: u32 = 16;
+
 pub const BRANCH_IF: u32 = 17;
 
 // The largest word, register word and space.

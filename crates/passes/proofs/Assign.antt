@@ -42,8 +42,14 @@ pub record Lives (n : ℕ) (E colours : List ℕ) (allocs : List Alloc) (t : ℕ
   pub long : numberIn E t ≤ colourAt allocs (numberIn colours t) .life
   pub below : numberIn colours t < n
 
-pub record Live (n : ℕ) (E : List ℕ) (regs : List Current) (colours : List ℕ) (allocs : List Alloc) : Type 0 where
-  pub of : (r t : ℕ) → staticIn regs r ≡ Static t → Lives n E colours allocs t
+-- and so does each that is still to be read at i or later: one that ended before owes nothing
+pub record Live (n i : ℕ) (E : List ℕ) (regs : List Current) (colours : List ℕ) (allocs : List Alloc) : Type 0 where
+  pub of : (r t : ℕ) → staticIn regs r ≡ Static t → i ≤ numberIn E t → Lives n E colours allocs t
+
+-- what is still to be read later is no more
+pub live-later : {n i j : ℕ} {E : List ℕ} {regs : List Current} {colours : List ℕ} {allocs : List Alloc} → i ≤ j
+    → Live n i E regs colours allocs → Live n j E regs colours allocs
+live-later h live = record { of = λ r t e l. live .of r t e (omega arith) }
 
 -- a register that holds a static is in the list
 pub holds-inside : (regs : List Current) (r t : ℕ) → staticIn regs r ≡ Static t → r < length regs
@@ -72,7 +78,7 @@ pub record Gets {Value : Type 0} (n i : ℕ) (regs : List Current) (allocs : Lis
 
 -- the destination of record i, the runs agreeing before it (j is i), or after another destination (j is suc i)
 module _ {Value : Type 0} {n j i : ℕ} {E : List ℕ} {Seen : ℕ → ℕ → Type 0} {regs : List Current} {colours : List ℕ} {allocs : List Alloc} {A B B′ : State Value} {d c : ℕ} {h : Held} {v : Value}
-    (early : j ≤ suc i) (names : Names regs (length colours)) (live : Live n E regs colours allocs) (sim : SimIn n E Seen j regs colours allocs A B)
+    (early : j ≤ suc i) (names : Names regs (length colours)) (live : Live n j E regs colours allocs) (sim : SimIn n E Seen j regs colours allocs A B)
     (g : Gets n i regs allocs A B B′ d c h v) where
   m : ℕ
   m = length colours
@@ -97,7 +103,7 @@ module _ {Value : Type 0} {n j i : ℕ} {E : List ℕ} {Seen : ℕ → ℕ → T
       (λ (q : numberIn colours t ≡ c → ⊥). upd-else (B .reg) c v (numberIn colours t) q) (same-or (numberIn colours t) c))
     where
       at-c : numberIn colours t ≡ c → v ≡ B .reg c
-      at-c q = ⊎-elim (λ (f : colourAt allocs c .life ≤ i). absurd (omega (arith, f, rw q at (live .of r t e .long)))) (λ f. f) (g .safe)
+      at-c q = ⊎-elim (λ (f : colourAt allocs c .life ≤ i). absurd (omega (arith, f, rw q at (live .of r t e (omega arith) .long)))) (λ f. f) (g .safe)
 
   here : colourAt (set allocs c new) c ≡ new
   here = getD-set-same allocs c new (alloc 0 Nothing) (omega (arith, g .colour, g .enough))
@@ -140,9 +146,9 @@ module _ {Value : Type 0} {n j i : ℕ} {E : List ℕ} {Seen : ℕ → ℕ → T
       let s = into-gen early sim assigned in
       record { named = s .named; const = s .const; cells = s .cells; regs = λ r t e l. s .regs r t (entry r t e) l; held = s .held }
 
-  pub live-assign : Live n E (set regs d (Static (length colours))) (colours ++ c ∷ []) (assign allocs c (numberIn E (length colours)) h)
+  pub live-assign : Live n (suc i) E (set regs d (Static (length colours))) (colours ++ c ∷ []) (assign allocs c (numberIn E (length colours)) h)
   unfolding m end new
-  live-assign = record { of = λ r t e. ⊎-elim (at-d r t e) (elsewhere r t e) (same-or r d) }
+  live-assign = record { of = λ r t e l. ⊎-elim (at-d r t e) (elsewhere r t e l) (same-or r d) }
     where
       longer : (k t : ℕ) → numberIn E t ≤ colourAt allocs k .life → numberIn E t ≤ colourAt (set allocs c new) k .life
       longer k t l =
@@ -159,8 +165,8 @@ module _ {Value : Type 0} {n j i : ℕ} {E : List ℕ} {Seen : ℕ → ℕ → T
             below = rw (← z, getD-append-seam colours c [] 0) (g .colour);
           }
 
-      elsewhere : (r t : ℕ) → staticIn (set regs d (Static m)) r ≡ Static t → (r ≡ d → ⊥) → Lives n E (colours ++ c ∷ []) (set allocs c new) t
-      elsewhere r t e q =
+      elsewhere : (r t : ℕ) → staticIn (set regs d (Static m)) r ≡ Static t → suc i ≤ numberIn E t → (r ≡ d → ⊥) → Lives n E (colours ++ c ∷ []) (set allocs c new) t
+      elsewhere r t e l q =
           let f : staticIn regs r ≡ Static t = sym (getD-set-other regs d r (Static m) Unset q) ∙ e in
-          let w = live .of r t f in
+          let w = live .of r t f (omega arith) in
           record { long = rw (old-colour r t f) (longer (numberIn colours t) t (w .long)); below = rw (old-colour r t f) (w .below) }

@@ -6,9 +6,10 @@ use mathlib.Core.List.{List, [], _++_}
 use mathlib.Core.Path.{_≡_, refl}
 use Rattle.mir.specs.declared.config.Settings.{Settings}
 use Rattle.mir.specs.Answers.{Report, answered, refused, unless}
-use Rattle.mir.specs.Folds.{allBelow, all, firstRefusal}
+use Rattle.mir.specs.Branches.{isLabel, isBranch, labelOf, pastTo}
+use Rattle.mir.specs.Folds.{allBelow, anyBelow, all, firstRefusal}
 use Rattle.mir.specs.Questions.{refusal, recordRefusal, recordNo, fewRegisters, fewArgs, wellSized, knownKind, fieldsFit, wordsFit}
-use Rattle.mir.specs.Questions.{pairsFit, gensFit, partnerFits, sourcesNamed}
+use Rattle.mir.specs.Questions.{pairsFit, gensFit, partnerFits, sourcesNamed, sourcesSince, branchRefusal}
 use Rattle.mir.specs.Records.{recordAt, fixedMark}
 use Rattle.mir.specs.Renaming.{gens, produced, renamed, staticsTo, regsTo}
 use Rattle.mir.specs.Shapes.{row, shapeOf, dests, sources, registers}
@@ -73,7 +74,8 @@ pub record TenCases : Type 0 where
 
 pub ten-cases : TenCases
 unfolding of caseF refusal recordRefusal recordNo fewRegisters fewArgs wellSized knownKind fieldsFit wordsFit pairsFit gensFit
-    partnerFits sourcesNamed allBelow all firstRefusal recordAt fixedMark gens produced renamed staticsTo regsTo shapeOf
+    partnerFits sourcesNamed sourcesSince branchRefusal isLabel isBranch labelOf pastTo allBelow anyBelow all firstRefusal recordAt
+    fixedMark gens produced renamed staticsTo regsTo shapeOf
     dests sources registers consumed endsTo endsOf pairsFrom firstBelow plainChoice choose afterDest wordFor afterDests wordsFor
     foundAll isMember joined colored colorStep colorTo outcomeOf outAt outcomeAt reducedTo reduced
 ten-cases =

@@ -214,16 +214,18 @@ module _ (regs : List Current) (i : ℕ) where
       (consumed-cases ws (consume regs i v ends) s))
       (λ (q : In w ws). consumed-hit ws (consume regs i v ends) w s q g e (rw (consume-length v ends) l)) m
 
-  -- a static that no register holds keeps its end
-  pub consumed-miss : (ws ends : List ℕ) (s : ℕ) → ((r : ℕ) → getD regs r Unset ≡ Static s → ⊥) → getD (consumed regs i ws ends) s 0 ≡ getD ends s 0
+  -- a static that no source holds keeps its end
+  pub consumed-miss : (ws ends : List ℕ) (s : ℕ) → ((w : ℕ) → In w ws → isGen w ≡ true → getD regs w Unset ≡ Static s → ⊥)
+      → getD (consumed regs i ws ends) s 0 ≡ getD ends s 0
   unfolding consumed
   consumed-miss [] ends s h = refl
-  consumed-miss (w ∷ ws) ends s h = consumed-miss ws (consume regs i w ends) s h ∙ go (isGen w) (getD regs w Unset) refl
+  consumed-miss (w ∷ ws) ends s h =
+      consumed-miss ws (consume regs i w ends) s (λ v m. h v (inr m)) ∙ go (isGen w) refl (getD regs w Unset) refl
     where
-      go : (b : Bool) (k : Current) → getD regs w Unset ≡ k → getD (cond b (endedAt k i ends) ends) s 0 ≡ getD ends s 0
-      go false k e = refl
-      go true Unset e = refl
-      go true (Static t) e = getD-set-other ends t s i 0 (λ (q : s ≡ t). h w (e ∙ ap Static (sym q)))
+      go : (b : Bool) → isGen w ≡ b → (k : Current) → getD regs w Unset ≡ k → getD (cond b (endedAt k i ends) ends) s 0 ≡ getD ends s 0
+      go false g k e = refl
+      go true g Unset e = refl
+      go true g (Static t) e = getD-set-other ends t s i 0 (λ (q : s ≡ t). h w (inl refl) g (e ∙ ap Static (sym q)))
 
 pub ends-length : (list : List ℕ) (i : ℕ) → length (endsTo list i) ≡ staticsTo list i
 unfolding endsTo staticsTo
@@ -286,12 +288,16 @@ module _ (list : List ℕ) (i : ℕ) where
       let h = names-to list i .below w s e in
       ends-old s h ∙ consumed-hit (regsTo list i) i (sources (recordAt list i)) (endsTo list i) w s m g e (rw (ends-length list i) h)
 
-  -- no register holds s: its end stays
-  ends-stay : (s : ℕ) → s < staticsTo list i → ((r : ℕ) → getD (regsTo list i) r Unset ≡ Static s → ⊥) → getD (endsTo list (suc i)) s 0 ≡ getD (endsTo list i) s 0
+  -- record i does not read s
+  abbrev pub Unread : ℕ → Type 0
+  Unread s = (w : ℕ) → In w (sources (recordAt list i)) → isGen w ≡ true → getD (regsTo list i) w Unset ≡ Static s → ⊥
+
+  -- its end stays
+  ends-stay : (s : ℕ) → s < staticsTo list i → Unread s → getD (endsTo list (suc i)) s 0 ≡ getD (endsTo list i) s 0
   unfolding after
   ends-stay s h g = ends-old s h ∙ consumed-miss (regsTo list i) i (sources (recordAt list i)) (endsTo list i) s g
 
-  statics-grow : staticsTo list i ≤ staticsTo list (suc i)
+  pub statics-grow : staticsTo list i ≤ staticsTo list (suc i)
   unfolding staticsTo
   statics-grow = omega arith
 
@@ -330,7 +336,7 @@ gone list (suc k) i s h g =
     let l : s < staticsTo list (k + i) = omega (arith, statics-mono list k i) in
     rw native.Mathlib.Nat.suc-add (
       λ (r : ℕ) (e : getD (regsTo list (suc (k + i))) r Unset ≡ Static s). up .0 r (regs-old list (k + i) r s l e),
-      ends-stay list (k + i) s l (up .0) ∙ up .1,
+      ends-stay list (k + i) s l (λ w m g. up .0 w) ∙ up .1,
     )
 
 pub gone-end : (list : List ℕ) (i s : ℕ) → i < records list → s < staticsTo list (suc i)
@@ -341,6 +347,22 @@ gone-end list i s l h g =
     let n : k + suc i ≡ records list = omega arith in
     let e = gone list k (suc i) s h g .1 in
     rw (← n) (omega (arith, e, ends-below list (suc i) s h))
+
+-- a static that no record after i reads ended by then
+module _ (list : List ℕ) (i s : ℕ) (known : s < staticsTo list (suc i)) (unread : (j : ℕ) → i < j → j < records list → Unread list j s) where
+  unread-to : (k : ℕ) → k + suc i ≤ records list → getD (endsTo list (k + suc i)) s 0 ≡ getD (endsTo list (suc i)) s 0
+  unread-to zero l = rw native.Mathlib.Nat.zero-add refl
+  unread-to (suc k) l =
+      rw native.Mathlib.Nat.suc-add
+      (ends-stay list (k + suc i) s (omega (arith, statics-mono list k (suc i))) (unread (k + suc i) (omega arith) (omega arith))
+      ∙ unread-to k (omega arith))
+
+  pub unread-end : i < records list → getD (endsOf list) s 0 ≤ i
+  unfolding endsOf
+  unread-end l =
+      let k = records list - suc i in
+      let n : k + suc i ≡ records list = omega arith in
+      rw (← n) (omega (arith, unread-to k (omega arith), ends-below list (suc i) s known))
 
 -- ---- the registers keep their number
 

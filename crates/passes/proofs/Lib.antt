@@ -3,6 +3,7 @@
 pub mod Cases
 pub mod Lists
 pub mod MachineCases
+pub mod BranchRuns
 pub mod PoolCases
 pub mod WideCases
 pub mod Arm
@@ -22,6 +23,7 @@ pub mod Pool
 pub mod NeverEmpty
 pub mod SameColours
 -- demand 3
+pub mod Ends
 pub mod Sim
 pub mod Assign
 pub mod Writes
@@ -29,4 +31,7 @@ pub mod Saves
 pub mod OneRecord
 pub mod Steps
 pub mod Runs
+pub mod Past
+pub mod Landing
+pub mod Jumps
 pub mod Preserved

@@ -7,9 +7,10 @@ use mathlib.Core.List.{List, [], _∷_, map, zip, zipWith}
 use mathlib.Core.Path.{_≡_, refl}
 use Rattle.mir.specs.declared.config.Settings.{Settings}
 use Rattle.mir.specs.Answers.{Report, answered, unless}
-use Rattle.mir.specs.Folds.{allBelow, all, firstRefusal}
+use Rattle.mir.specs.Branches.{isLabel, isBranch, labelOf, pastTo}
+use Rattle.mir.specs.Folds.{allBelow, anyBelow, all, firstRefusal}
 use Rattle.mir.specs.Questions.{refusal, recordRefusal, recordNo, fewRegisters, fewArgs, wellSized, knownKind, fieldsFit, wordsFit}
-use Rattle.mir.specs.Questions.{pairsFit, gensFit, partnerFits, sourcesNamed}
+use Rattle.mir.specs.Questions.{pairsFit, gensFit, partnerFits, sourcesNamed, sourcesSince, branchRefusal}
 use Rattle.mir.specs.Records.{records, recordAt, fixedMark}
 use Rattle.mir.specs.Renaming.{gens, produced, renamed, staticsTo, regsTo}
 use Rattle.mir.specs.Shapes.{row, shapeOf, dests, sources, registers}
@@ -203,12 +204,12 @@ labelAndCall =
     (load 0 mem 0 ∷ load 1 mem 1 ∷ end ∷ label 7 ∷ load 1 mem 1 ∷ call 7 4294967295 ∷ load 1 mem 1 ∷ saveArgs 255 1 0
     ∷ uni 1 0 1 ∷ save 0 mem 0 ∷ [])
 
--- Branch and BranchIf forget lives and locations but no register; its colour may be overwritten before it is read
+-- Branch and BranchIf forget lives and locations; past a Branch a colour may be overwritten before it is read
 pub branches : Input
 branches =
     input 3 0 false false false []
-    (load 0 mem 0 ∷ load 1 mem 1 ∷ branchIf 1 9 1 ∷ load 2 mem 1 ∷ mov 1 0 ∷ branch 9 ∷ load 0 mem 1 ∷ bi 4 ret 1 2
-    ∷ branchIf ret 4294967295 0 ∷ save 2 mem 2 ∷ [])
+    (load 0 mem 1 ∷ branchIf 0 9 1 ∷ load 2 mem 1 ∷ mov 1 2 ∷ branch 9 ∷ load 0 mem 1 ∷ bi 4 ret 1 2
+    ∷ branchIf ret 4294967295 0 ∷ label 4294967295 ∷ label 9 ∷ [])
 
 -- each of 32 colours holds a location; the last one is found, and the first one is given away
 pub thirtyTwo : Input
@@ -286,8 +287,8 @@ pub record StoredLists : Type 0 where
       ∷ saveArgs 255 1 0 ∷ uni 1 1 0 ∷ save 1 mem 0 ∷ []))
   pub branches :
       of branches
-      ≡ answered (flat (load 0 mem 0 ∷ load 1 mem 1 ∷ branchIf 1 9 1 ∷ load 0 mem 1 ∷ branch 9 ∷ load 0 mem 1
-      ∷ bi 4 ret 0 0 ∷ branchIf ret 4294967295 0 ∷ save 0 mem 2 ∷ []))
+      ≡ answered (flat (load 0 mem 1 ∷ branchIf 0 9 1 ∷ load 0 mem 1 ∷ branch 9 ∷ load 0 mem 1 ∷ bi 4 ret 0 0
+      ∷ branchIf ret 4294967295 0 ∷ label 4294967295 ∷ label 9 ∷ []))
   pub thirty-two :
       of thirtyTwo
       ≡ answered (flat (loadComplex 0 1 param 0 ∷ loadComplex 2 3 param 2 ∷ loadComplex 4 5 param 4
@@ -355,8 +356,8 @@ pub record StoredAccounts : Type 0 where
       ((mem, 0) ∷ (mem, 1) ∷ [])
   pub branches :
       account branches
-      ≡ counts 0 0 1 0 ((0, 4) ∷ (1, 2) ∷ (0, 9) ∷ (0, 7) ∷ (0, 6) ∷ [])
-      ((mem, 0) ∷ (mem, 1) ∷ [])
+      ≡ counts 0 0 1 0 ((0, 1) ∷ (0, 6) ∷ (0, 6) ∷ (0, 5) ∷ [])
+      ((mem, 1) ∷ [])
   pub thirty-two :
       account thirtyTwo
       ≡ counts 0 1 0 0 ((0, 0) ∷ (1, 0) ∷ (2, 1) ∷ (3, 1) ∷ (4, 2) ∷ (5, 2) ∷ (6, 3) ∷ (7, 3) ∷ (8, 4) ∷ (9, 4)
@@ -385,7 +386,8 @@ pub record StoredAccounts : Type 0 where
 pub stored-lists : StoredLists
 unfolding of namedRegisters moves firstFree olderHolder readByOthers droppedLoads complexMark complexLoads sameRegister
     labelAndCall branches thirtyTwo foundHalves joiningHalves readHalves refusal recordRefusal recordNo fewRegisters fewArgs
-    wellSized knownKind fieldsFit wordsFit pairsFit gensFit partnerFits sourcesNamed allBelow all firstRefusal recordAt
+    wellSized knownKind fieldsFit wordsFit pairsFit gensFit partnerFits sourcesNamed sourcesSince branchRefusal isLabel isBranch
+    labelOf pastTo allBelow anyBelow all firstRefusal recordAt
     fixedMark gens produced renamed staticsTo regsTo shapeOf dests sources registers consumed endsTo endsOf pairsFrom
     firstBelow plainChoice choose afterDest wordFor afterDests wordsFor foundAll isMember joined colored colorStep colorTo
     outcomeOf outAt outcomeAt reducedTo reduced

@@ -3,7 +3,7 @@
 -- that `RunsEqual` tells apart.
 -- The lists by computation: each place starts with a word of its own, and an operation's word shows its operands in order.
 use Prim.Native.Nat.{ℕ, _+_, _-_, _*_, _%_, _<_, _≤_}
-use mathlib.Core.Bool.{Bool, true, false, cond}
+use mathlib.Core.Bool.{Bool, true, false, cond, not}
 use mathlib.Core.List.{List, [], _∷_, map}
 use mathlib.Core.Path.{_≡_, refl, ap, _∙_}
 use native.Mathlib.Nat.{mod-lt}
@@ -26,16 +26,16 @@ use Rattle.passes.proofs.Lists.{nop, end, uni, bi, fused, ifElse, loadC
 pub word-below : (w : Word) → w .number < 18446744073709551616
 word-below w = w .fits
 
-pub wordOf : (n : ℕ) → n < 18446744073709551616 → Word
+unfoldable pub wordOf : (n : ℕ) → n < 18446744073709551616 → Word
 wordOf n h = record { number = n; fits = h }
 
 -- ---- lists
 
-pub word : ℕ → Word
+unfoldable pub word : ℕ → Word
 word n = wordOf (n % 18446744073709551616) (mod-lt n (omega arith))
 
 -- Gen registers 10, 11 .., the named ones 20 to 23; Stack 30, 31 .., Mem 40, 41 .., Param 0, 2^32 ..; constants 60, 61 ..
-pub start : Bool → State Word
+unfoldable pub start : Bool → State Word
 start over =
     record {
       reg = λ r. word (cond (ltb r 256) (10 + r) (r - 236));
@@ -45,24 +45,28 @@ start over =
     }
 
 -- the operation and its operands, as one number
-pub digits1 : ℕ → Word → Word
+unfoldable pub digits1 : ℕ → Word → Word
 digits1 op a = word (op * 100 + a .number)
 
-pub digits2 : ℕ → Word → Word → Word
+unfoldable pub digits2 : ℕ → Word → Word → Word
 digits2 op a b = word (op * 10000 + a .number * 100 + b .number)
 
-pub digits3 : ℕ → Word → Word → Word → Word
+unfoldable pub digits3 : ℕ → Word → Word → Word → Word
 digits3 op a b c = word (op * 1000000 + a .number * 10000 + b .number * 100 + c .number)
 
 -- ComplexBi's two words: the second has a digit more
-pub digits4 : ℕ → Word → Word → Word → Word → Word
+unfoldable pub digits4 : ℕ → Word → Word → Word → Word → Word
 digits4 op a b c d = word (op * 100000000 + a .number * 1000000 + b .number * 10000 + c .number * 100 + d .number)
 
-pub digits5 : ℕ → Word → Word → Word → Word → Word
+unfoldable pub digits5 : ℕ → Word → Word → Word → Word → Word
 digits5 op a b c d = word (10000000000 + digits4 op a b c d .number)
 
+-- a BranchIf is taken where the condition's word is below 100, and with is_else where it is not
+pub below : Word → ℕ → Bool
+below c e = cond (eqb e 0) (ltb (c .number) 100) (not (ltb (c .number) 100))
+
 abbrev digits : Meaning Word
-digits = onWords digits1 digits2 digits3 digits4 digits5
+digits = onWords digits1 digits2 digits3 digits4 digits5 below
 
 -- the words at three Gen registers, the named ones, and two cells of each space
 pub record Words : Type 0 where
@@ -107,6 +111,7 @@ shown = run all-three (flat (ifElse 0 1 2 mem 7 ∷ [])) numbers .reg 0
           complexX = λ op a b c d. a;
           complexY = λ op a b c d. a;
           select = λ c a b. c * 100 + a * 10 + b;
+          taken = λ c e. true;
         }
 
     numbers : State ℕ
@@ -209,7 +214,7 @@ machine-cases =
 
 -- ---- which lists are scalar, and which demand 3 is about
 
-abbrev kinds : List ℕ
+abbrev pub kinds : List ℕ
 kinds = 0 ∷ 1 ∷ 2 ∷ 3 ∷ 4 ∷ 5 ∷ 6 ∷ 7 ∷ 8 ∷ 9 ∷ 10 ∷ 11 ∷ 12 ∷ 13 ∷ 14 ∷ 15 ∷ 16 ∷ 17 ∷ 18 ∷ 19 ∷ 20 ∷ 21 ∷ []
 
 pub record ScalarCases : Type 0 where
@@ -293,7 +298,7 @@ module _ (s : Settings) where
   lists-told : (a b : List (List ℕ)) → (returned a ≡ returned b → ⊥) → RunsEqual s (flat a) (flat b) → ⊥
   unfolding returned
   lists-told a b other h =
-      other (ap (λ (w : Word). w .number) (h digits1 digits2 digits3 digits4 digits5 (start false) .named ret (omega arith) (omega arith)))
+      other (ap (λ (w : Word). w .number) (h digits1 digits2 digits3 digits4 digits5 below (start false) .named ret (omega arith) (omega arith)))
 
   -- the two lists differ in U, B, F, X or Y of their operands, in the state that they start from, or in what a condition picks
   pub record ListsTold : Type 0 where

@@ -11,7 +11,7 @@ use lib.ListN.{getD}
 use borrow.Author.Tests.{ltb-false}
 use Rattle.mir.specs.declared.config.Settings.{Settings}
 use Rattle.mir.specs.declared.rename.Current.{Current}
-use Rattle.mir.specs.declared.rename.Current.the-variants.{Unset}
+use Rattle.mir.specs.declared.rename.Current.the-variants.{Static, Unset}
 use Rattle.mir.specs.declared.shape.Action.the-variants as action
 use Rattle.mir.specs.Records.{records, recordAt, isGen, fixedMark}
 use Rattle.mir.specs.Renaming.{produced, staticsTo, regsTo}
@@ -20,14 +20,16 @@ use Rattle.mir.proofs.Clash.{clash}
 use Rattle.mir.proofs.Passing.{ListPasses}
 use Rattle.passes.specs.declared.alloc.Alloc.{Alloc}
 use Rattle.passes.specs.declared.alloc.Held.{Held}
+use Rattle.passes.specs.declared.alloc.Held.the-variants.{At}
 use Rattle.passes.specs.declared.symbol.Loc.{Loc}
-use Rattle.passes.specs.Color.{Setup, setup, Coloring, loc, locOf, blank, colourOf, sourceWord}
+use Rattle.passes.specs.Color.{Setup, setup, Coloring, loc, locOf, blank, colourAt, colourOf, sourceWord}
 use Rattle.passes.specs.Color.{updateAllocs, isMember, wordsFor, foundAt, afterDests, sourcesAt, destsAt, colorStep, colorTo}
 use Rattle.passes.specs.Contract.{isBeyond, readSet}
 use Rattle.passes.specs.Create.{endsOf}
 use Rattle.passes.specs.Machine.{State}
-use Rattle.passes.proofs.Assign.{Live, SimIn}
+use Rattle.passes.proofs.Assign.{Live, SimIn, staticIn, numberIn}
 use Rattle.passes.proofs.Create.{In, read-end, regs-length}
+use Rattle.passes.proofs.Locations.{blank-nothing}
 use Rattle.passes.proofs.NeverEmpty.{regs-next, before-of, wanted-words, source-static, source-below}
 use Rattle.passes.proofs.Pool.{words}
 use Rattle.passes.proofs.ReadSet.{InLocs, readsAt, is-read}
@@ -40,12 +42,21 @@ module _ (s : Settings) (list table : List ℕ) where
   abbrev pub Seen : ℕ → ℕ → Type 0
   Seen p x = (isBeyond (fixedMark s) (loc p x) ≡ false) ⊎ (isMember (loc p x) (readSet (setup s list table)) ≡ true)
 
+  -- named registers, constants, and the cells that somebody looks at are the same
+  pub record Same {Value : Type 0} (A B : State Value) : Type 0 where
+    pub named : (r : ℕ) → 256 ≤ r → A .reg r ≡ B .reg r
+    pub const : (k : ℕ) → A .const k ≡ B .const k
+    pub cells : (q x : ℕ) → Seen q x → A .cell q x ≡ B .cell q x
+
   -- before record i neither run is over, and they agree
   pub record Running {Value : Type 0} (i : ℕ) (A B : State Value) : Type 0 where
     pub a-runs : A .over ≡ false
     pub b-runs : B .over ≡ false
     pub sim : SimIn (s .«count_regs») (endsOf list) Seen i (regsTo list i) (colorTo (setup s list table) i .colours) (colorTo (setup s list table) i .allocs) A B
-    pub live : Live (s .«count_regs») (endsOf list) (regsTo list i) (colorTo (setup s list table) i .colours) (colorTo (setup s list table) i .allocs)
+    pub live : Live (s .«count_regs») i (endsOf list) (regsTo list i) (colorTo (setup s list table) i .colours) (colorTo (setup s list table) i .allocs)
+
+  pub running-same : {Value : Type 0} {i : ℕ} {A B : State Value} → Running i A B → Same A B
+  running-same g = record { named = g .sim .named; const = g .sim .const; cells = g .sim .cells }
 
 -- record i of a list that passes, and what the definitions have there
 pub record Place : Type 0 where
@@ -96,7 +107,7 @@ module _ (p : Place) where
 
   -- after the record, by what it makes of the registers' statics, the colours given and the colours' state
   pub after : {Value : Type 0} {rs : List Current} {cs : List ℕ} {al : List Alloc} {A B : State Value} → regsTo (p .list) (suc (p .i)) ≡ rs → next .colours ≡ cs → next .allocs ≡ al
-      → A .over ≡ false → B .over ≡ false → SimIn count (endsOf (p .list)) Looked (suc (p .i)) rs cs al A B → Live count (endsOf (p .list)) rs cs al → After A B
+      → A .over ≡ false → B .over ≡ false → SimIn count (endsOf (p .list)) Looked (suc (p .i)) rs cs al A B → Live count (suc (p .i)) (endsOf (p .list)) rs cs al → After A B
   after er ec ea a b sim live = record { a-runs = a; b-runs = b; sim = rw (er, ec, ea) sim; live = rw (er, ec, ea) live }
 
 -- ---- what a record reads
@@ -163,30 +174,58 @@ module _ (p : Place) (stays : (l : Loc) (x y : ℕ) (allocs : List Alloc) → up
     pub dests-same : foundAt (made p) (p .i) (state p) ≡ true → writeAll (dsts p) vs B ≡ B
     dests-same = wrote .same
 
--- ---- a record that writes none, and does not reset the colours
+-- ---- a record that writes none
 
-module _ (p : Place) (none : dests (rec p) ≡ []) (no-reset : shapeFor (rec p) .action ≡ action.Clear → ⊥) where
+module _ (p : Place) (none : dests (rec p) ≡ []) where
   nothing-given : afterDests (count p) (p .i) (endsOf (p .list)) (destsAt (made p) (p .i) (state p)) (state p) ≡ state p
   unfolding afterDests
   nothing-given = rw none
 
-  same-colours : next p .colours ≡ state p .colours
+  pub same-colours : next p .colours ≡ state p .colours
   unfolding colorTo colorStep
   same-colours = ap (λ (k : Coloring). k .colours) nothing-given
 
   abbrev source : ℕ → ℕ
   source k = getD (sourcesAt (made p) (p .i) (state p)) k 0
 
-  updated-allocs : next p .allocs ≡ updateAllocs (shapeFor (rec p) .action) (locOf (rec p)) (source 0) (source 1) (state p .allocs)
+  pub updated-allocs : next p .allocs ≡ updateAllocs (shapeFor (rec p) .action) (locOf (rec p)) (source 0) (source 1) (state p .allocs)
   unfolding colorTo colorStep
   updated-allocs = ap (λ (k : Coloring). updateAllocs (shapeFor (rec p) .action) (locOf (rec p)) (source 0) (source 1) (k .allocs)) nothing-given
 
-  same-regs : regsTo (p .list) (suc (p .i)) ≡ regs p
-  unfolding produced
-  same-regs = regs-next (p .list) (p .i) no-reset ∙ ap (λ (ws : List ℕ). produced ws (staticsTo (p .list) (p .i)) (regs p)) none
+  -- and does not reset the colours
+  module _ (no-reset : shapeFor (rec p) .action ≡ action.Clear → ⊥) where
+    same-regs : regsTo (p .list) (suc (p .i)) ≡ regs p
+    unfolding produced
+    same-regs = regs-next (p .list) (p .i) no-reset ∙ ap (λ (ws : List ℕ). produced ws (staticsTo (p .list) (p .i)) (regs p)) none
 
-  -- as is the colours' state after its action
-  pub none-after : {Value : Type 0} {al : List Alloc} {A B : State Value} → updateAllocs (shapeFor (rec p) .action) (locOf (rec p)) (source 0) (source 1) (state p .allocs) ≡ al
-      → A .over ≡ false → B .over ≡ false → SimIn (count p) (endsOf (p .list)) (Looked p) (suc (p .i)) (regs p) (state p .colours) al A B
-      → Live (count p) (endsOf (p .list)) (regs p) (state p .colours) al → After p A B
-  none-after e = after p same-regs same-colours (updated-allocs ∙ e)
+    -- as is the colours' state after its action
+    pub none-after : {Value : Type 0} {al : List Alloc} {A B : State Value} → updateAllocs (shapeFor (rec p) .action) (locOf (rec p)) (source 0) (source 1) (state p .allocs) ≡ al
+        → A .over ≡ false → B .over ≡ false → SimIn (count p) (endsOf (p .list)) (Looked p) (suc (p .i)) (regs p) (state p .colours) al A B
+        → Live (count p) (suc (p .i)) (endsOf (p .list)) (regs p) (state p .colours) al → After p A B
+    none-after e = after p same-regs same-colours (updated-allocs ∙ e)
+
+  -- and resets them: no colour holds a location, and each register that is still to be read has its static's value
+  pub reset-after : {Value : Type 0} {A B : State Value} → shapeFor (rec p) .action ≡ action.Clear → A .over ≡ false → B .over ≡ false → Same (p .s) (p .list) (p .table) A B
+      → ((r t : ℕ) → staticIn (regsTo (p .list) (suc (p .i))) r ≡ Static t → suc (p .i) ≤ numberIn (endsOf (p .list)) t → ⊥) → After p A B
+  reset-after {Value} {A} {B} clears a b same unread =
+      record {
+        a-runs = a;
+        b-runs = b;
+        sim =
+            record {
+              named = same .named;
+              const = same .const;
+              cells = same .cells;
+              regs = λ r t e l. absurd (unread r t e l);
+              held = λ c l k e. absurd (no-location c l (rw emptied at e));
+            };
+        live = record { of = λ r t e l. absurd (unread r t e l) };
+      }
+    where
+      emptied : next p .allocs ≡ blank
+      emptied = updated-allocs ∙ rw clears
+
+      no-location : (c : ℕ) (l : Loc) → colourAt blank c .loc ≡ At l → ⊥
+      no-location c l q =
+          let f = blank-nothing c in
+          clash (cc)

@@ -1,100 +1,56 @@
--- Demand 3, `preserved`: for every list, table and settings that pass section 7 with straight kinds only, over
--- values of any type, under every meaning and from every state, the run of the list and the run of its reduced list end equal.
--- By induction on the records: before each the two runs agree (`Running`), or both are over and ended equal (`Stopped`). A
--- record's kind picks its step; what agrees at the end is the claim.
+-- Demand 3, `keeps-up`: for every list, table and settings that pass section 7, of all kinds but 10 to 12, over values of any type, under
+-- every meaning and from every state: if the run of the list reaches its end in n steps, the run of its reduced list does so in at most n,
+-- and the two end equal. For lists of straight kinds `preserved` follows: the straight machine's runs of the two end equal.
+-- By induction on the steps of the list's run: the two have met after each (`Meets`), the reduced one having made no more steps.
 use Prim.Native.Nat.{ℕ, zero, suc, _≤_, _<_}
 use mathlib.Core.Bool.{Bool, true, false, cond}
-use mathlib.Core.List.{List, [], _++_, append-nil}
-use mathlib.Core.Logic.{inl, inr, ⊎-elim}
-use mathlib.Core.Path.{_≡_, refl, sym, _∙_}
+use mathlib.Core.List.{List}
+use mathlib.Core.Logic.{_⊎_, inl, inr, ⊎-elim}
+use mathlib.Core.Path.{_≡_, refl, subst, _∙_}
+use native.Mathlib.Decide.{decLt}
 use native.Mathlib.Omega.{arith}
-use lib.ListN.{length}
-use lib.Seq.{take-all}
 use Rattle.mir.specs.declared.config.Settings.{Settings}
 use Rattle.mir.specs.Records.{records, recordAt, wordAt, fixedMark}
 use Rattle.mir.specs.Renaming.{regsTo}
-use Rattle.mir.specs.Shapes.{row}
 use Rattle.mir.proofs.Clash.{clash}
 use Rattle.mir.proofs.Folds.{all-at, all-each}
 use Rattle.mir.proofs.Passing.{ListPasses, list-passes}
-use Rattle.mir.proofs.Records.{words-at}
 use Rattle.passes.specs.declared.alloc.Held.the-variants.{At}
-use Rattle.passes.specs.declared.alloc.Outcome.the-variants.{Kept}
 use Rattle.passes.specs.declared.symbol.Loc.{Loc}
-use Rattle.passes.specs.Color.{Setup, setup, colorTo, colourAt, blank}
-use Rattle.passes.specs.Contract.{isKept, outcomeAt, outAt, reducedTo, reduced, countTo}
-use Rattle.passes.specs.Machine.{Meaning, State, turn, runTo, run, onWords, isScalar, AllScalar, isStraight, AllStraight, Passing, EndsEqual, RunsEqual}
-use Rattle.passes.proofs.OneRecord.{Running, Place}
+use Rattle.passes.specs.Color.{setup, colorTo, colourAt, blank}
+use Rattle.passes.specs.Contract.{isKept, outcomeAt, reduced, countTo}
+use Rattle.passes.specs.Machine.{Meaning, State, Point, first, run, step, ended, onward, stepsTo, EndsIn, onWords}
+use Rattle.passes.specs.Machine.{isScalar, AllScalar, isStraight, AllStraight, isCovered, AllCovered, Passing, EndsEqual, RunsEqual, KeepsUp, RunsKeepUp, Preserves}
 use Rattle.passes.proofs.Create.{not-fresh}
-use Rattle.passes.proofs.Lengths.{out-length, reduced-length}
+use Rattle.passes.proofs.Ends.{not-both, runs, over-ended, past-ended, onward-ended, onward-runs, first-end, ends-once, straight-runs}
+use Rattle.passes.proofs.Jumps.{Met, Meets, meets-next}
+use Rattle.passes.proofs.Landing.{place-end, kept-inside}
 use Rattle.passes.proofs.Locations.{blank-nothing}
-use Rattle.passes.proofs.Runs.{record-length, run-append}
-use Rattle.passes.proofs.Steps.{Stopped, Agree, ends-equal, step}
-
--- a record of eight words is its words
-pub eight : (l : List ℕ) → length l ≡ 8
-    → l ≡ row (wordAt l 0) (wordAt l 1) (wordAt l 2) (wordAt l 3) (wordAt l 4) (wordAt l 5) (wordAt l 6) (wordAt l 7)
-eight l h = sym (take-all 8 l (omega arith)) ∙ words-at l 8 0 (omega arith)
+use Rattle.passes.proofs.OneRecord.{Same, Running, running-same}
+use Rattle.passes.proofs.Reduced.{same-kind, reduced-holds}
+use Rattle.passes.proofs.Steps.{ends-equal}
 
 module _ (s : Settings) (list table : List ℕ) (passes : ListPasses s list table) {Value : Type 0} (m : Meaning Value) (start : State Value) where
-  abbrev made : Setup
-  made = setup s list table
+  abbrev out : List ℕ
+  out = reduced s list table
 
-  abbrev kept : ℕ → Bool
-  kept i = isKept (outcomeAt (fixedMark s) made i)
+  abbrev MeetAt : Point Value → Point Value → Type 0
+  MeetAt = Meets s list table passes m
 
-  -- the two runs as far as record i
-  abbrev a-run : ℕ → State Value
-  a-run i = runTo m list start i
+  -- ---- before the first step
 
-  abbrev b-run : ℕ → State Value
-  b-run i = run m (reducedTo (fixedMark s) made i) start
-
-  abbrev AgreeTo : ℕ → Type 0
-  AgreeTo i = Agree s list table i (a-run i) (b-run i)
-
-  b-next : (i : ℕ) → i < records list → b-run (suc i) ≡ cond (kept i) (turn m (outAt made i) (b-run i)) (b-run i)
-  unfolding reducedTo
-  b-next i inside = go (kept i)
-    where
-      go : (b : Bool) → run m (reducedTo (fixedMark s) made i ++ cond b (outAt made i) []) start ≡ cond b (turn m (outAt made i) (b-run i)) (b-run i)
-      go true =
-          run-append m start (reducedTo (fixedMark s) made i) (outAt made i) (countTo Kept (fixedMark s) made i)
-          (reduced-length (fixedMark s) made i (omega arith)) (out-length made i inside)
-      go false = rw (append-nil (reducedTo (fixedMark s) made i))
-
-  over-stays : (rec : List ℕ) (A : State Value) → A .over ≡ true → turn m rec A ≡ A
-  unfolding turn
-  over-stays rec A h = rw h
-
-  agree-next : (i : ℕ) → i < records list → isStraight (wordAt (recordAt list i) 0) ≡ true → AgreeTo i → AgreeTo (suc i)
-  unfolding runTo
-  agree-next i inside straight k = rw (b-next i inside) (⊎-elim goes-on (λ (g : Stopped s (a-run i) (b-run i)). inr (stays (kept i) g)) k)
-    where
-      stays : (b : Bool) → Stopped s (a-run i) (b-run i) → Stopped s (turn m (recordAt list i) (a-run i)) (cond b (turn m (outAt made i) (b-run i)) (b-run i))
-      stays true g = rw (over-stays (recordAt list i) (a-run i) (g .a-over), over-stays (outAt made i) (b-run i) (g .b-over)) g
-      stays false g = rw (over-stays (recordAt list i) (a-run i) (g .a-over)) g
-
-      goes-on : Running s list table i (a-run i) (b-run i) → Agree s list table (suc i) (turn m (recordAt list i) (a-run i)) (cond (kept i) (turn m (outAt made i) (b-run i)) (b-run i))
-      goes-on g =
-          let p : Place = record { s = s; list = list; table = table; passes = passes; i = i; inside = inside } in
-          let r = recordAt list i in
-          let w = wordAt r in
-          step m p g (w 1) (w 2) (w 3) (w 4) (w 5) (w 6) (w 7) (w 0) straight (eight r (record-length list i inside))
-
-  agree-first : AgreeTo zero
-  unfolding runTo run reducedTo colorTo regsTo
-  agree-first = go (start .over) refl
+  meet-first : MeetAt (first start) (first start)
+  unfolding colorTo regsTo countTo
+  meet-first = go (start .over) refl
     where
       no-location : (c : ℕ) (l : Loc) → colourAt blank c .loc ≡ At l → ⊥
       no-location c l q =
           let f = blank-nothing c in
           clash (cc)
 
-      go : (b : Bool) → start .over ≡ b → Agree s list table zero start start
-      go false h =
-          inl
-          (record {
+      running : start .over ≡ false → Running s list table zero start start
+      running h =
+          record {
             a-runs = h;
             b-runs = h;
             sim =
@@ -105,27 +61,123 @@ module _ (s : Settings) (list table : List ℕ) (passes : ListPasses s list tabl
                   regs = λ r t q l. absurd (not-fresh r t q);
                   held = λ c l q f. absurd (no-location c l f);
                 };
-            live = record { of = λ r t q. absurd (not-fresh r t q) };
-          })
+            live = record { of = λ r t q l. absurd (not-fresh r t q) };
+          }
+
+      go : (b : Bool) → start .over ≡ b → MeetAt (first start) (first start)
+      go false h = inl (record { spot = refl; inside = omega arith; agree = inl (running h) })
       go true h =
           inr (record { a-over = h; b-over = h; equal = record { named = λ r p q. refl; mem = λ k. refl; param = λ k. refl; stack = λ k l. refl } })
 
-  agree-to : ((i : ℕ) → i < records list → isStraight (wordAt (recordAt list i) 0) ≡ true) → (i : ℕ) → i ≤ records list → AgreeTo i
-  agree-to h zero l = agree-first
-  agree-to h (suc i) l = agree-next i (omega arith) (h i (omega arith)) (agree-to h i (omega arith))
+  -- ---- one step of the list's run
+
+  agree-runs : {p q : Point Value} → Met s list table passes m p q → (p .state .over ≡ false) × (q .state .over ≡ false) × Same s list table (p .state) (q .state)
+  agree-runs met = ⊎-elim (λ g. (g .a-runs, g .b-runs, running-same s list table g)) (λ g. (g .a-runs, g .b-runs, g .same)) (met .agree)
+
+  module _ (covered : (i : ℕ) → i < records list → isCovered (wordAt (recordAt list i) 0) ≡ true) where
+    -- the reduced run makes the step too, or waits
+    met-next : (p q : Point Value) → Met s list table passes m p q → p .at < records list
+        → MeetAt (onward m list p) q ⊎ MeetAt (onward m list p) (onward m out q)
+    met-next p q met l =
+        let g = agree-runs met in
+        let r = meets-next s list table passes m p q met l (covered (p .at) l) in
+        rw (onward-runs m list p (runs list p (g .0) l)) (go (isKept (outcomeAt (fixedMark s) (setup s list table) (p .at))) refl r)
+      where
+        go : (b : Bool) → isKept (outcomeAt (fixedMark s) (setup s list table) (p .at)) ≡ b → MeetAt (step m list p) (cond b (step m out q) q)
+            → MeetAt (step m list p) q ⊎ MeetAt (step m list p) (onward m out q)
+        go true k r =
+            let inside : q .at < records out = rw (met .spot) (kept-inside s list table passes (p .at) l k) in
+            inr (rw (onward-runs m out q (runs out q (agree-runs met .1) inside)) r)
+        go false k r = inl r
+
+    meet-next : (p q : Point Value) → MeetAt p q → MeetAt (onward m list p) q ⊎ MeetAt (onward m list p) (onward m out q)
+    meet-next p q (inr g) = inl (rw (onward-ended m list p (over-ended list p (g .a-over))) (inr g))
+    meet-next p q (inl g) = go (decLt (p .at) (records list))
+      where
+        go : Dec (p .at < records list) → MeetAt (onward m list p) q ⊎ MeetAt (onward m list p) (onward m out q)
+        go (yes h) = met-next p q g h
+        go (no h) = inl (rw (onward-ended m list p (past-ended list p (omega (arith, h)))) (inl g))
+
+    meet-to : (n : ℕ) → (k : ℕ) × (k ≤ n) × MeetAt (stepsTo m list start n) (stepsTo m out start k)
+    unfolding stepsTo
+    meet-to zero = (0, omega arith, meet-first)
+    meet-to (suc n) =
+        let up = meet-to n in
+        ⊎-elim (λ g. (up .0, omega (arith, up .1), g)) (λ g. (suc (up .0), omega (arith, up .1), g)) (meet-next (stepsTo m list start n) (stepsTo m out start (up .0)) (up .2))
+
+    -- ---- the end
+
+    met-ends : (p q : Point Value) → MeetAt p q → ended list p ≡ true → (ended out q ≡ true) × EndsEqual s (p .state) (q .state)
+    met-ends p q (inr g) h = (over-ended out q (g .b-over), g .equal)
+    met-ends p q (inl g) h = go (decLt (p .at) (records list))
+      where
+        go : Dec (p .at < records list) → (ended out q ≡ true) × EndsEqual s (p .state) (q .state)
+        go (yes l) = not-both h (runs list p (agree-runs g .0) l)
+        go (no l) =
+            let e : p .at ≡ records list = omega (arith, l, g .inside) in
+            let f : q .at ≡ records out = g .spot ∙ rw e (place-end s list table passes) in
+            (past-ended out q (omega (arith, f)), ends-equal s list table (agree-runs g .2))
+
+    keeps-up-with : (n : ℕ) (z : State Value) → EndsIn m list start n z → KeepsUp s m out start n z
+    keeps-up-with n z h =
+        let met = meet-to n in
+        let e = met-ends (stepsTo m list start n) (stepsTo m out start (met .0)) (met .2) (h .reached) in
+        let f = first-end m out start (met .0) (e .0) in
+        record {
+          steps = f .0;
+          at-most = omega (arith, f .1, met .1);
+          end = stepsTo m out start (met .0) .state;
+          ends = f .2;
+          equal = subst (λ (x : State Value). EndsEqual s x (stepsTo m out start (met .0) .state)) (h .state) (e .1);
+        }
+
+pub keeps-up : (s : Settings) (list table : List ℕ) → Passing s list table → AllCovered list → {Value : Type 0} (m : Meaning Value) (start : State Value)
+    (n : ℕ) (z : State Value) → EndsIn m list start n z → KeepsUp s m (reduced s list table) start n z
+unfolding Passing AllCovered
+keeps-up s list table passing covered m start =
+    keeps-up-with s list table (list-passes true s list table passing) m start
+    (λ i l. all-at (λ (j : ℕ). isCovered (wordAt (recordAt list j) 0)) (records list) i covered l)
+
+-- over words, as section 5 and the requests have it
+pub runs-keep-up : (s : Settings) (list table : List ℕ) → Passing s list table → AllCovered list → RunsKeepUp s list (reduced s list table)
+runs-keep-up s list table passing covered U B F X Y J = keeps-up s list table passing covered (onWords U B F X Y J)
+
+-- ---- straight kinds
+
+-- the reduced list has them alone where the list does
+still-straight : (s : Settings) (list table : List ℕ) → ListPasses s list table → AllStraight list → AllStraight (reduced s list table)
+unfolding AllStraight
+still-straight s list table passes h =
+    let kind : List ℕ → ℕ = λ rec. wordAt rec 0 in
+    let each = all-at (λ (j : ℕ). isStraight (kind (recordAt list j))) (records list) in
+    all-each (λ (k : ℕ). isStraight (kind (recordAt (reduced s list table) k))) (records (reduced s list table))
+    (reduced-holds s list table (λ (rec : List ℕ). isStraight (kind rec) ≡ true)
+    (λ i l. rw (same-kind s list table passes i l) (each i h l)))
+
+straight-covered : (list : List ℕ) → AllStraight list → AllCovered list
+unfolding AllStraight AllCovered
+straight-covered list h =
+    let kind : ℕ → ℕ = λ j. wordAt (recordAt list j) 0 in
+    all-each (λ j. isCovered (kind j)) (records list) (λ j l. rw (all-at (λ (n : ℕ). isStraight (kind n)) (records list) j h l))
 
 pub preserved : (s : Settings) (list table : List ℕ) → Passing s list table → AllStraight list → {Value : Type 0} (m : Meaning Value) (start : State Value)
     → EndsEqual s (run m list start) (run m (reduced s list table) start)
-unfolding Passing AllStraight run reduced
+unfolding Passing
 preserved s list table passing straight m start =
-    let n = records list in
-    let each = all-at (λ (j : ℕ). isStraight (wordAt (recordAt list j) 0)) n in
-    ⊎-elim (ends-equal s list table) (λ (g : Stopped s (runTo m list start n) (run m (reduced s list table) start)). g .equal)
-    (agree-to s list table (list-passes true s list table passing) m start (λ i l. each i straight l) n (omega arith))
+    let out = reduced s list table in
+    let a = straight-runs m list start straight in
+    let b = straight-runs m out start (still-straight s list table (list-passes true s list table passing) straight) in
+    let k = keeps-up s list table passing (straight-covered list straight) m start (a .0) (run m list start) (a .2) in
+    subst (EndsEqual s (run m list start)) (ends-once m out start (k .ends) (b .2)) (k .equal)
 
--- over words, as section 5 and the requests have it
+-- over words
 pub runs-equal : (s : Settings) (list table : List ℕ) → Passing s list table → AllStraight list → RunsEqual s list (reduced s list table)
-runs-equal s list table passing straight U B F X Y = preserved s list table passing straight (onWords U B F X Y)
+runs-equal s list table passing straight U B F X Y J = preserved s list table passing straight (onWords U B F X Y J)
+
+-- both, as the promises have it
+pub list-preserved : (s : Settings) (list table : List ℕ) → Passing s list table → Preserves s list (reduced s list table)
+list-preserved s list table passing =
+    record { straight = runs-equal s list table passing; branches = runs-keep-up s list table passing }
 
 -- a list of scalar straight-line kinds, document 01's, is among them
 scalar-kind : (k : ℕ) → isScalar k ≡ true → isStraight k ≡ true

@@ -141,7 +141,7 @@ module _ (s : Settings) (list table : List ℕ) (passes : ListPasses s list tabl
   room = rw len (regs-in-record (wordAt rec 0))
 
   -- the kind stays, and with it the shape
-  same-kind : wordAt (outAt u i) 0 ≡ wordAt rec 0
+  pub same-kind : wordAt (outAt u i) 0 ≡ wordAt rec 0
   same-kind = rw out-spliced (go (decLt 0 (shape .regs)))
     where
       go : Dec (0 < shape .regs) → getD (take (shape .regs) rec ++ ((ws ++ ss) ++ drop (shape .regs + (shape .dsts + shape .srcs)) rec)) 0 0 ≡ getD rec 0 0
@@ -213,7 +213,7 @@ module _ (s : Settings) (list table : List ℕ) (passes : ListPasses s list tabl
   out-gens = rw out-registers words-fit
 
   -- outside the register words nothing changed
-  same-word : (p : ℕ) → (p < shape .regs) ⊎ (shape .regs + (shape .dsts + shape .srcs) ≤ p) → wordAt (outAt u i) p ≡ wordAt rec p
+  pub same-word : (p : ℕ) → (p < shape .regs) ⊎ (shape .regs + (shape .dsts + shape .srcs) ≤ p) → wordAt (outAt u i) p ≡ wordAt rec p
   same-word p h =
       rw out-spliced
       (⊎-elim (splice-before rec (ws ++ ss) (shape .regs) (shape .dsts + shape .srcs) room mid-length p)
@@ -258,12 +258,13 @@ module _ (s : Settings) (list table : List ℕ) (passes : ListPasses s list tabl
 
 -- ---- the whole list
 
-module _ (s : Settings) (list table : List ℕ) (passes : ListPasses s list table) where
-  reduced-to-passes : (i : ℕ) → i ≤ records list → (k : ℕ) → k < countTo Kept (fixedMark s) (setup s list table) i
-      → shapeNo table (s .«count_regs») (recordAt (reducedTo (fixedMark s) (setup s list table) i) k) ≡ 0
+-- what holds of each record that is put out holds of each record of the reduced list
+module _ (s : Settings) (list table : List ℕ) (P : List ℕ → Type 0) (each : (i : ℕ) → i < records list → P (outAt (setup s list table) i)) where
+  holds-to : (i : ℕ) → i ≤ records list → (k : ℕ) → k < countTo Kept (fixedMark s) (setup s list table) i
+      → P (recordAt (reducedTo (fixedMark s) (setup s list table) i) k)
   unfolding reducedTo countTo
-  reduced-to-passes zero h k l = absurd (omega arith)
-  reduced-to-passes (suc i) h k l = go (isKept (outcomeAt (fixedMark s) u i)) (rw (kept-next (fixedMark s) u i) at l) (reduced-to-passes i (omega arith) k)
+  holds-to zero h k l = absurd (omega arith)
+  holds-to (suc i) h k l = go (isKept (outcomeAt (fixedMark s) u i)) (rw (kept-next (fixedMark s) u i) at l) (holds-to i (omega arith) k)
     where
       u : Setup
       u = setup s list table
@@ -277,21 +278,24 @@ module _ (s : Settings) (list table : List ℕ) (passes : ListPasses s list tabl
       len : length xs ≡ c * 8
       len = reduced-length (fixedMark s) u i (omega arith)
 
-      go : (b : Bool) → k < c + cond b 1 0 → (k < c → shapeNo table (s .«count_regs») (recordAt xs k) ≡ 0)
-          → shapeNo table (s .«count_regs») (recordAt (xs ++ cond b (outAt u i) []) k) ≡ 0
+      go : (b : Bool) → k < c + cond b 1 0 → (k < c → P (recordAt xs k)) → P (recordAt (xs ++ cond b (outAt u i) []) k)
       go false q up = rw (append-nil xs) (up (omega arith))
       go true q up =
           ⊎-elim (λ (p : k < c). rw (record-early xs (outAt u i) k (omega (arith, len))) (up p))
-          (λ (p : k ≡ c). rw (p, record-new xs (outAt u i) c len (out-length u i (omega arith))) (out-passes s list table passes i (omega arith)))
+          (λ (p : k ≡ c). rw (p, record-new xs (outAt u i) c len (out-length u i (omega arith))) (each i (omega arith)))
           (below-suc (one-more q))
         where
           one-more : k < c + 1 → k < suc c
           one-more z = omega arith
 
+  pub reduced-holds : (k : ℕ) → k < records (reduced s list table) → P (recordAt (reduced s list table) k)
+  unfolding reduced
+  reduced-holds k l =
+      holds-to (records list) (omega arith) k (omega (arith, reduced-length (fixedMark s) (setup s list table) (records list) (omega arith)))
+
 -- the reduced list passes questions 5, 6 and 7
 pub reduced-passes : (s : Settings) (list table : List ℕ) → Passing s list table → (k : ℕ) → k < records (reduced s list table)
     → shapeNo table (s .«count_regs») (recordAt (reduced s list table) k) ≡ 0
-unfolding Passing reduced
-reduced-passes s list table passing k l =
-    reduced-to-passes s list table (list-passes true s list table passing) (records list) (omega arith) k
-    (omega (arith, reduced-length (fixedMark s) (setup s list table) (records list) (omega arith)))
+unfolding Passing
+reduced-passes s list table passing =
+    reduced-holds s list table (λ (rec : List ℕ). shapeNo table (s .«count_regs») rec ≡ 0) (out-passes s list table (list-passes true s list table passing))

@@ -1,13 +1,14 @@
--- A run goes on by one record where the list does.
--- The records of a list are those of its beginning, and then the new one.
-use Prim.Native.Nat.{ℕ, zero, suc, _+_, _*_, _≤_, _<_}
+-- The records of a list that goes on: those of its beginning, and then the new one.
+-- By the laws of the first and the other words of a list.
+use Prim.Native.Nat.{ℕ, _+_, _*_, _≤_, _<_}
 use mathlib.Core.List.{List, _++_}
-use mathlib.Core.Path.{_≡_, refl}
+use mathlib.Core.Path.{_≡_, sym, _∙_}
 use native.Mathlib.Omega.{arith}
-use lib.ListN.{length, drop, length-append, length-drop}
+use lib.ListN.{length, drop, length-drop}
 use lib.Seq.{take-append-le, drop-append-le, drop-at, take-all}
-use Rattle.mir.specs.Records.{records, recordAt}
-use Rattle.passes.specs.Machine.{Meaning, State, turn, runTo, run}
+use Rattle.mir.specs.Records.{records, recordAt, wordAt}
+use Rattle.mir.specs.Shapes.{row}
+use Rattle.mir.proofs.Records.{words-at}
 
 pub record-early : (xs ys : List ℕ) (j : ℕ) → j * 8 + 8 ≤ length xs → recordAt (xs ++ ys) j ≡ recordAt xs j
 unfolding recordAt
@@ -25,23 +26,7 @@ pub record-length : (list : List ℕ) (i : ℕ) → i < records list → length 
 unfolding recordAt
 record-length list i l = lib.Seq.length-take-le 8 (drop (i * 8) list) (rw length-drop (omega arith))
 
-one-fewer : (k n : ℕ) → suc k * 8 ≤ n → k * 8 ≤ n
-one-fewer k n h = omega arith
-
-run-one-more : {Value : Type 0} (m : Meaning Value) (st : State Value) (xs ys : List ℕ) (k : ℕ) → suc k * 8 ≤ length xs → runTo m (xs ++ ys) st k ≡ runTo m xs st k
-    → runTo m (xs ++ ys) st (suc k) ≡ runTo m xs st (suc k)
-unfolding runTo
-run-one-more m st xs ys k h up = rw (up, record-early xs ys k (omega arith))
-
-run-early : {Value : Type 0} (m : Meaning Value) (st : State Value) (xs ys : List ℕ) (k : ℕ) → k * 8 ≤ length xs → runTo m (xs ++ ys) st k ≡ runTo m xs st k
-unfolding runTo
-run-early m st xs ys zero h = refl
-run-early m st xs ys (suc k) h = run-one-more m st xs ys k h (run-early m st xs ys k (one-fewer k (length xs) h))
-
-pub run-append : {Value : Type 0} (m : Meaning Value) (st : State Value) (xs rec : List ℕ) (k : ℕ) → length xs ≡ k * 8 → length rec ≡ 8
-    → run m (xs ++ rec) st ≡ turn m rec (run m xs st)
-unfolding run runTo
-run-append m st xs rec k h r =
-    let a : records xs ≡ k = omega arith in
-    let b : records (xs ++ rec) ≡ suc k = omega (arith, length-append xs rec) in
-    rw (b, a, run-early m st xs rec k (omega arith), record-new xs rec k h r)
+-- a record of eight words is its words
+pub eight : (l : List ℕ) → length l ≡ 8
+    → l ≡ row (wordAt l 0) (wordAt l 1) (wordAt l 2) (wordAt l 3) (wordAt l 4) (wordAt l 5) (wordAt l 6) (wordAt l 7)
+eight l h = sym (take-all 8 l (omega arith)) ∙ words-at l 8 0 (omega arith)

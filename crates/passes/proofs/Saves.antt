@@ -22,9 +22,9 @@ use Rattle.passes.proofs.Sim.{SameCell, into-cell, stored-at, stored-el
 abbrev pub savedTo : ℕ → Loc → List Alloc → List Alloc
 savedTo w l allocs = give w l (clear l allocs)
 
-pub live-save : {n : ℕ} {E : List ℕ} {regs : List Current} {colours : List ℕ} {allocs : List Alloc} (w : ℕ) (l : Loc)
-    → Live n E regs colours allocs → Live n E regs colours (savedTo w l allocs)
-live-save {n} {E} {regs} {colours} {allocs} w l live = record { of = λ r t q. lives t (live .of r t q) }
+pub live-save : {n i : ℕ} {E : List ℕ} {regs : List Current} {colours : List ℕ} {allocs : List Alloc} (w : ℕ) (l : Loc)
+    → Live n i E regs colours allocs → Live n i E regs colours (savedTo w l allocs)
+live-save {n} {i} {E} {regs} {colours} {allocs} w l live = record { of = λ r t q k. lives t (live .of r t q k) }
   where
     lives : (t : ℕ) → Lives n E colours allocs t → Lives n E colours (savedTo w l allocs) t
     lives t h =
@@ -33,7 +33,7 @@ live-save {n} {E} {regs} {colours} {allocs} w l live = record { of = λ r t q. l
 
 -- record i, or one source of it: the runs agree before it (j is i), or after another source (j is suc i); w has the value v
 module _ {Value : Type 0} {n j i : ℕ} {E : List ℕ} {Seen : ℕ → ℕ → Type 0} {regs : List Current} {colours : List ℕ} {allocs : List Alloc} {A B : State Value}
-    (early : j ≤ suc i) (live : Live n E regs colours allocs) (sim : SimIn n E Seen j regs colours allocs A B) (w : ℕ) (l : Loc) (v : Value) (has : B .reg w ≡ v) where
+    (early : j ≤ suc i) (live : Live n j E regs colours allocs) (sim : SimIn n E Seen j regs colours allocs A B) (w : ℕ) (l : Loc) (v : Value) (has : B .reg w ≡ v) where
   saved : (k : ℕ) (m : Loc) → k < n → heldIn (savedTo w l allocs) k ≡ At m
       → (SameCell (l .space) (l .index) (m .space) (m .index) × (B .reg k ≡ v)) ⊎ ((SameCell (l .space) (l .index) (m .space) (m .index) → ⊥) × (heldIn allocs k ≡ At m))
   saved k m h q = go (saved-holds w l allocs k m q)

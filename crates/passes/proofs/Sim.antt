@@ -112,8 +112,8 @@ module _ {Value : Type 0} {n : ℕ} {E : ℕ → ℕ} {Seen : ℕ → ℕ → Ty
           let f : ρ r ≡ Static t = sym (upd-else ρ d (Static s) r h) ∙ e in
           rw (upd-else (A .reg) d v r h, g .old r t f, g .safe r t h f l) (sim .regs r t f (omega arith))
 
-  -- a named register w gets the value v in both runs; the registers that hold statics, and their colours, are Gen
-  pub into-named : (w : ℕ) (v : Value) → 256 ≤ w → n ≤ 256 → ((r s : ℕ) → ρ r ≡ Static s → (r < 256) × (κ s < n))
+  -- a named register w gets the value v in both runs; the registers that hold statics still to be read, and their colours, are Gen
+  pub into-named : (w : ℕ) (v : Value) → 256 ≤ w → n ≤ 256 → ((r s : ℕ) → ρ r ≡ Static s → k ≤ E s → (r < 256) × (κ s < n))
       → Sim n E Seen (suc i) ρ κ hold (write w v A) (write w v B)
   into-named w v h few small =
       record {
@@ -124,8 +124,8 @@ module _ {Value : Type 0} {n : ℕ} {E : ℕ → ℕ} {Seen : ℕ → ℕ → Ty
         cells = sim .cells;
         regs = λ r s e l.
             rw (
-              upd-else (A .reg) w v r (λ (q : r ≡ w). omega (arith, small r s e .0)),
-              upd-else (B .reg) w v (κ s) (λ (q : κ s ≡ w). omega (arith, small r s e .1)),
+              upd-else (A .reg) w v r (λ (q : r ≡ w). omega (arith, small r s e (omega arith) .0)),
+              upd-else (B .reg) w v (κ s) (λ (q : κ s ≡ w). omega (arith, small r s e (omega arith) .1)),
             )
             (sim .regs r s e (omega arith));
         held = λ c l k e. rw (upd-else (B .reg) w v c (λ (q : c ≡ w). omega arith)) (sim .held c l k e);

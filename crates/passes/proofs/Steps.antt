@@ -26,10 +26,11 @@ use Rattle.passes.specs.Color.{loc, heldBy, clear, give, updateAllocs, i
 use Rattle.passes.specs.Contract.{outcomeOf, outAt, outcomeAt, isKept, readSet, isBeyond}
 use Rattle.passes.specs.Create.{endsOf}
 use Rattle.passes.specs.Machine.{Meaning, State, store, storeBoth, finish, effect, turn, isScalar, isStraight, EndsEqual}
-use Rattle.passes.proofs.OneRecord.{Running, Place, Before, count, made, state, rec, regs, src, wants, dsts, Looked}
+use Rattle.passes.proofs.OneRecord.{Same, Running, running-same, Place, Before, count, made, state, rec, regs, src, wants, dsts, Looked}
 use Rattle.passes.proofs.OneRecord.{source-same, source-small, cell-same, dests-after, dests-same, none-after}
-use Rattle.passes.proofs.Assign.{Live, SimIn}
+use Rattle.passes.proofs.Assign.{Live, SimIn, live-later}
 use Rattle.passes.proofs.Create.{In}
+use Rattle.passes.proofs.Ends.{turn-runs}
 use Rattle.passes.proofs.Locations.{clear-give}
 use Rattle.passes.proofs.ReadSet.{InLocs, readsAt}
 use Rattle.passes.proofs.Saves.{savedTo, live-save, sim-store, sim-unseen}
@@ -46,13 +47,13 @@ module _ (s : Settings) (list table : List ℕ) where
   Agree i A B = Running s list table i A B ⊎ Stopped s A B
 
   -- what agrees is what the claim asks
-  pub ends-equal : {Value : Type 0} {i : ℕ} {A B : State Value} → Running s list table i A B → EndsEqual s A B
+  pub ends-equal : {Value : Type 0} {A B : State Value} → Same s list table A B → EndsEqual s A B
   ends-equal g =
       record {
-        named = λ r h k. g .sim .named r h;
-        mem = λ x. g .sim .cells 1 x (inl refl);
-        param = λ x. g .sim .cells 2 x (inl refl);
-        stack = λ x h. g .sim .cells 0 x (inl (rw (lt-leb (fixedMark s) x h)));
+        named = λ r h k. g .named r h;
+        mem = λ x. g .cells 1 x (inl refl);
+        param = λ x. g .cells 2 x (inl refl);
+        stack = λ x h. g .cells 0 x (inl (rw (lt-leb (fixedMark s) x h)));
       }
 
 neither : (a b : Bool) → not (a || b) ≡ true → (not a ≡ true) × (not b ≡ true)
@@ -66,7 +67,7 @@ kept-unless false o h = refl
 
 -- ---- what holds at each scalar kind holds of every kind that is one
 
-or-cases : (a b : Bool) → (a || b) ≡ true → (a ≡ true) ⊎ (b ≡ true)
+pub or-cases : (a b : Bool) → (a || b) ≡ true → (a ≡ true) ⊎ (b ≡ true)
 or-cases true b h = inl refl
 or-cases false b h = inr h
 
@@ -116,13 +117,8 @@ module _ {Value : Type 0} (m : Meaning Value) (p : Place) {A B : State Value} (g
   abbrev pub Steps : Type 0
   Steps = Agree (p .s) (p .list) (p .table) (suc (p .i)) (turn m (rec p) A) (cond kept (turn m out B) B)
 
-  -- neither run being over, a turn is the record's effect
-  goes : (r : List ℕ) (S : State Value) → S .over ≡ false → turn m r S ≡ effect m r S
-  unfolding turn
-  goes r S h = rw h
-
   stepped : {A′ B′ : State Value} → effect m (rec p) A ≡ A′ → cond kept (effect m out B) B ≡ B′ → Agree (p .s) (p .list) (p .table) (suc (p .i)) A′ B′ → Steps
-  stepped a b h = rw (goes (rec p) A (g .a-runs), goes out B (g .b-runs), a, b) h
+  stepped a b h = rw (turn-runs m (rec p) A (g .a-runs), turn-runs m out B (g .b-runs), a, b) h
 
   -- ---- registers
 
@@ -158,6 +154,10 @@ module _ {Value : Type 0} (m : Meaning Value) (p : Place) {A B : State Value} (g
       go : (b : Bool) → found ≡ b → cond (not b) (effect m out B) B ≡ writeAll (dsts p) vs B
       go true q = sym (dests-same p (w .stays) g vs (w .valued) q)
       go false q = reads q
+
+  -- what is still to be read after the record
+  later : Live (count p) (suc (p .i)) (endsOf (p .list)) (regs p) (state p .colours) (state p .allocs)
+  later = live-later (omega arith) (g .live)
 
   -- what a source and a cell are in the reduced run
   same : (w : ℕ) → In w (sources (rec p)) → A .reg w ≡ B .reg (src p w)
@@ -287,7 +287,7 @@ module _ {Value : Type 0} (m : Meaning Value) (p : Place) {A B : State Value} (g
           → SimIn (count p) (endsOf (p .list)) (Looked p) (suc (p .i)) (regs p) (state p .colours) (savedTo (src p w1) l (state p .allocs)) (store w2 w3 (A .reg w1) A) B′ → Steps
       unfolding dests sources shapeOf effect
       save-after over run sim =
-          stepped (rw e) run (inl (none-after p (rw e) (λ q. no-reset (rw e at q)) (rw e) (g .a-runs) over sim (live-save (src p w1) l (g .live))))
+          stepped (rw e) run (inl (none-after p (rw e) (λ q. no-reset (rw e at q)) (rw e) (g .a-runs) over sim (live-save (src p w1) l later)))
         where
           no-reset : action.Save ≡ action.Clear → ⊥
           no-reset q = clash (cc)
@@ -347,7 +347,7 @@ module _ {Value : Type 0} (m : Meaning Value) (p : Place) {A B : State Value} (g
       unfolding dests sources shapeOf effect
       both-after over run sim =
           stepped (rw e) run
-          (inl (none-after p (rw e) (λ q. no-reset (rw e at q)) (rw e cleared-first) (g .a-runs) over sim (live-save (src p w2) y (live-save (src p w1) x (g .live)))))
+          (inl (none-after p (rw e) (λ q. no-reset (rw e at q)) (rw e cleared-first) (g .a-runs) over sim (live-save (src p w2) y (live-save (src p w1) x later))))
         where
           no-reset : action.SaveComplex ≡ action.Clear → ⊥
           no-reset q = clash (cc)
@@ -356,8 +356,8 @@ module _ {Value : Type 0} (m : Meaning Value) (p : Place) {A B : State Value} (g
       unfolding effect
       save-complex-step = go both-unread refl
         where
-          live-one : Live (count p) (endsOf (p .list)) (regs p) (state p .colours) one
-          live-one = live-save (src p w1) x (g .live)
+          live-one : Live (count p) (suc (p .i)) (endsOf (p .list)) (regs p) (state p .colours) one
+          live-one = live-save (src p w1) x later
 
           -- the partner of a cell beyond the mark is beyond it
           further : (i : ℕ) → beyond (loc w3 i) ≡ true → beyond (loc w3 (i + 1)) ≡ true
@@ -386,15 +386,15 @@ module _ {Value : Type 0} (m : Meaning Value) (p : Place) {A B : State Value} (g
     end-step : Is 1 → Steps
     unfolding dests sources shapeOf effect outAt colored wordsFor outcomeAt outcomeOf
     end-step e =
-        let q = ends-equal (p .s) (p .list) (p .table) g in
+        let q = ends-equal (p .s) (p .list) (p .table) (running-same (p .s) (p .list) (p .table) g) in
         stepped {A′ = finish A} {B′ = finish B} (rw e) (rw e)
         (inr (record { a-over = refl; b-over = refl; equal = record { named = q .named; mem = q .mem; param = q .param; stack = q .stack } }))
 
     -- ---- by the kind
 
-    pub step : (k : ℕ) → isStraight k ≡ true → Is k → Steps
+    pub straight-step : (k : ℕ) → isStraight k ≡ true → Is k → Steps
     unfolding dests sources shapeOf effect outAt colored wordsFor outcomeAt outcomeOf readsAt
-    step =
+    straight-step =
         by-straight
         (λ (k : ℕ). Is k → Steps)
         (by-kind

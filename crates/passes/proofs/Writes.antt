@@ -23,7 +23,7 @@ use Rattle.passes.specs.declared.alloc.Held.the-variants.{Nothing, At}
 use Rattle.passes.specs.declared.symbol.Loc.{Loc}
 use Rattle.passes.specs.Color.{Coloring, colourAt, choose, chosen, isFound, wanted, afterDest, afterDests, wordsFor, foundAll}
 use Rattle.passes.specs.Machine.{State, write}
-use Rattle.passes.proofs.Assign.{Live, Gets, SimIn, staticIn, numberIn, holds-inside, sim-assign, live-assign}
+use Rattle.passes.proofs.Assign.{Live, Gets, SimIn, staticIn, numberIn, holds-inside, sim-assign, live-assign, live-later}
 use Rattle.passes.proofs.Choice.{choose-free, choose-found}
 use Rattle.passes.proofs.Create.{Names}
 use Rattle.passes.proofs.Pool.{Before, words, given, colourFor, after-gen, afters-gen, afters-named, words-gen, words-named, produced-gen, produced-named}
@@ -70,11 +70,11 @@ module _ {Value : Type 0} (n i : ℕ) (E : List ℕ) (Seen : ℕ → ℕ → Typ
   pub record Agrees (j : ℕ) (regs : List Current) (st : Coloring) (A B : State Value) : Type 0 where
     pub early : j ≤ suc i
     pub short : length regs ≤ 256
-    pub live : Live n E regs (st .colours) (st .allocs)
+    pub live : Live n j E regs (st .colours) (st .allocs)
     pub sim : SimIn n E Seen j regs (st .colours) (st .allocs) A B
 
   pub record Wrote (ds : List (ℕ × Held)) (vs : List Value) (m : ℕ) (regs : List Current) (st : Coloring) (A B : State Value) : Type 0 where
-    pub live : Live n E (produced (words ds) m regs) (afterDests n i E ds st .colours) (afterDests n i E ds st .allocs)
+    pub live : Live n (suc i) E (produced (words ds) m regs) (afterDests n i E ds st .colours) (afterDests n i E ds st .allocs)
     pub sim : SimIn n E Seen (suc i) (produced (words ds) m regs) (afterDests n i E ds st .colours) (afterDests n i E ds st .allocs) (writeAll (words ds) vs A) (writeAll (wordsFor n i E ds st) vs B)
     pub same : foundAll n i E ds st ≡ true → writeAll (wordsFor n i E ds st) vs B ≡ B
 
@@ -148,13 +148,13 @@ module _ {Value : Type 0} (n i : ℕ) (E : List ℕ) (Seen : ℕ → ℕ → Typ
         record {
           early = omega arith;
           short = g .short;
-          live = g .live;
+          live = live-later (g .early) (g .live);
           sim = into-named (g .early) (g .sim) w v (ltb-false w 256 q) few small;
         }
       where
-        -- the registers that hold statics, and their colours, are Gen
-        small : (r t : ℕ) → staticIn regs r ≡ Static t → (r < 256) × (numberIn (st .colours) t < n)
-        small r t e = (omega (arith, holds-inside regs r t e, g .short), g .live .of r t e .below)
+        -- the registers that hold statics still to be read, and their colours, are Gen
+        small : (r t : ℕ) → staticIn regs r ≡ Static t → j ≤ numberIn E t → (r < 256) × (numberIn (st .colours) t < n)
+        small r t e l = (omega (arith, holds-inside regs r t e, g .short), g .live .of r t e l .below)
 
     with-named : isGen w ≡ false → Wrote ds vs m regs st (write w v A) (write w v B) → Wrote ((w, h) ∷ ds) (v ∷ vs) m regs st A B
     unfolding words foundAll
@@ -177,7 +177,7 @@ module _ {Value : Type 0} (n i : ℕ) (E : List ℕ) (Seen : ℕ → ℕ → Typ
 
   pub write-dests : (ds : List (ℕ × Held)) (vs : List Value) (m : ℕ) → Writing ds vs m
   unfolding afterDests wordsFor words produced foundAll
-  write-dests [] vs m regs st j A B b g h = record { live = g .live; sim = sim-next (g .early) (g .sim); same = λ q. refl }
+  write-dests [] vs m regs st j A B b g h = record { live = live-later (g .early) (g .live); sim = sim-next (g .early) (g .sim); same = λ q. refl }
   write-dests (d ∷ ds) [] m regs st j A B b g h = absurd h
   write-dests (d ∷ ds) (v ∷ vs) m regs st j A B b g h = go (isGen (d .0)) refl (write-dests ds vs (suc m)) (write-dests ds vs m)
     where

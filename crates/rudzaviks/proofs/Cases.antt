@@ -8,7 +8,7 @@ use mathlib.Core.Path.{_≡_, refl}
 use lib.ListN.{length, replicate}
 use Rattle.mir.specs.declared.questions.Verdict.the-variants.{Passed, Refused}
 use Rattle.mir.specs.Folds.{firstRefusal}
-use Rattle.mir.specs.Questions.{refusal, recordRefusal, fewRegisters, fewArgs, wellSized, knownKind, shapeNo, shapeRefusal, sizesRefusal, refusalBeside}
+use Rattle.mir.specs.Questions.{refusal, recordRefusal, branchRefusal, fewRegisters, fewArgs, wellSized, knownKind, shapeNo, shapeRefusal, sizesRefusal, refusalBeside}
 use Rattle.mir.specs.Records.{recordAt}
 use Rattle.walks.specs.Lent.{lent}
 use Rattle.allocator.specs.Optimize.{roomFor, roomIn}
@@ -68,7 +68,7 @@ one-pair-more file p = rw p
 
 pub export-cases : ExportCases
 unfolding surveyVerdict refusalBeside sizesRefusal shapeRefusal shapeNo knownKind recordAt verdictWith roomIn roomFor wordIn
-    wordsIn bytesOf settingsIn tableIn listIn wellFormed fileVerdict refusal recordRefusal fewRegisters fewArgs wellSized
+    wordsIn bytesOf settingsIn tableIn listIn wellFormed fileVerdict refusal recordRefusal branchRefusal fewRegisters fewArgs wellSized
     firstRefusal
 export-cases =
     record {

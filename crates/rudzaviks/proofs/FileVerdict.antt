@@ -1,4 +1,4 @@
--- The verdict on a file: that of the nine questions if it is well formed, and otherwise 3 at 0; and what follows if it passed.
+-- The verdict on a file: that of the questions if it is well formed, and otherwise 3 at 0; and what follows if it passed.
 -- By these two cases; demand 3 is the theorem, put to the file's list.
 use Prim.Native.Nat.{ℕ, _*_, _≤_}
 use mathlib.Core.Bool.{Bool, true, false, cond}
@@ -19,9 +19,9 @@ use Rattle.mir.proofs.Passing.{room-passes}
 use Rattle.passes.specs.declared.alloc.Outcome.the-variants.{Kept}
 use Rattle.passes.specs.Color.{setup}
 use Rattle.passes.specs.Contract.{countsOf, countOf}
-use Rattle.passes.specs.Machine.{Passing, AllStraight, RunsEqual}
+use Rattle.passes.specs.Machine.{Passing, Preserves}
 use Rattle.passes.proofs.Lengths.{counts-add}
-use Rattle.passes.proofs.Preserved.{runs-equal}
+use Rattle.passes.proofs.Preserved.{list-preserved}
 use Rattle.rudzaviks.specs.declared.file.Layout.the-variants as layout
 use Rattle.rudzaviks.specs.File.{settingsIn, pairCount, recordCount, tableIn, listIn, wellFormed, layoutOf, fileVerdict, fileCounts, fileReduced}
 use Rattle.rudzaviks.proofs.Sections.{Sections, list-length}
@@ -81,6 +81,6 @@ answered-passed room file c a = go (fileVerdict room file) a
     go (Refused number index) e = clash (cc)
 
 -- demand 3, of words that are the reduced list
-pub accepted-preserved : {room : Bool} {file words : List ℕ} → Accepted room file → words ≡ fileReduced file → AllStraight (listIn file)
-    → RunsEqual (settingsIn file) (listIn file) words
-accepted-preserved {file = file} a e = rw e (runs-equal (settingsIn file) (listIn file) (tableIn file) (a .passing))
+pub accepted-preserved : {room : Bool} {file words : List ℕ} → Accepted room file → words ≡ fileReduced file
+    → Preserves (settingsIn file) (listIn file) words
+accepted-preserved {file = file} a e = rw e (list-preserved (settingsIn file) (listIn file) (tableIn file) (a .passing))

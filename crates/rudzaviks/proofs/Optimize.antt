@@ -35,9 +35,9 @@ module _ {s : Settings} {list table : List ℕ} {held : Lent} {counts : List ℕ
         ends = cc;
         set = cc;
         counts = cc (left-by (λ values. values) (verdictWith s list table held counts) (countsOf s list table) counts);
-        preserved = λ q straight.
+        preserved = λ q.
             let n : reportWord recordsWord (report given) ≡ recordsIn (report result) = cc in
-            rw n (p .preserved (cc) straight);
+            rw n (p .preserved (cc));
       }
 
   -- no room for the counts

@@ -16,7 +16,7 @@ use Rattle.mir.specs.Beside.{parts}
 use Rattle.mir.specs.Questions.{refusal, refusalBeside}
 use Rattle.passes.specs.Contract.{countsOf, wordsOf, reduced, coloursOf, membersOf}
 use Rattle.passes.specs.Create.{endsOf}
-use Rattle.passes.specs.Machine.{AllStraight, RunsEqual}
+use Rattle.passes.specs.Machine.{Preserves}
 
 -- a flag is set if its word isn't 0
 abbrev pub flag : ℕ → Bool
@@ -61,7 +61,7 @@ pub record RudzaviksSurvey (countRegs : ℕ) (compress : Bool) (label : ℕ) (li
 abbrev pub recordsWord : List ℕ → ℕ
 recordsWord values = getD values 0 0
 
--- the nine questions; question 4 also asks for a slice of at least seven counts
+-- the questions; question 4 also asks for a slice of at least seven counts
 unfoldable pub verdictWith : Settings → List ℕ → List ℕ → Lent → List ℕ → Verdict
 verdictWith s list table held counts = refusal (roomIn list table held && leb 7 (length counts)) s list table
 
@@ -76,5 +76,4 @@ pub record RudzaviksOptimize (s : Settings) (list table : List ℕ) (held : Lent
   pub counts : nowCounts ≡ left (verdictWith s list table held heldCounts) (countsOf s list table) heldCounts
   pub preserved :
       verdictWith s list table held heldCounts ≡ Passed
-      → AllStraight list
-      → RunsEqual s list (take (given * 8) (now .out))
+      → Preserves s list (take (given * 8) (now .out))

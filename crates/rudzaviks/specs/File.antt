@@ -14,7 +14,7 @@ use Rattle.mir.specs.Answers.{unless}
 use Rattle.mir.specs.Questions.{refusal}
 use Rattle.passes.specs.declared.alloc.Outcome.the-variants.{Kept}
 use Rattle.passes.specs.Contract.{countsOf, reduced, countOf}
-use Rattle.passes.specs.Machine.{AllStraight, RunsEqual}
+use Rattle.passes.specs.Machine.{Preserves}
 use Rattle.rudzaviks.specs.declared.file.Layout.{Layout}
 use Rattle.rudzaviks.specs.declared.file.Layout.the-variants.{Counts, Bad}
 use Rattle.rudzaviks.specs.Exports.{settingsOf, reportWord, recordsWord}
@@ -64,7 +64,7 @@ wellFormed file =
 unfoldable pub layoutOf : List ℕ → Layout
 layoutOf file = cond (wellFormed file) (Counts (pairCount file) (recordCount file)) Bad
 
--- 3 at 0 for a file that is not well formed, ahead of question 1; then the nine questions
+-- 3 at 0 for a file that is not well formed, ahead of question 1; then the questions
 unfoldable pub fileVerdict : Bool → List ℕ → Verdict
 fileVerdict room file =
     cond (wellFormed file) (refusal room (settingsIn file) (listIn file) (tableIn file)) (Refused 3 0)
@@ -84,8 +84,7 @@ pub record FileReduced (file held now : List ℕ) (given : Answer) : Type 0 wher
   pub out : now ≡ left (wordsVerdict file held) (fileReduced file) held
   pub preserved :
       wordsVerdict file held ≡ Passed
-      → AllStraight (listIn file)
-      → RunsEqual (settingsIn file) (listIn file) (take (recordsIn (report given) * 8) now)
+      → Preserves (settingsIn file) (listIn file) (take (recordsIn (report given) * 8) now)
 
 -- the file reduced into bytes: question 4 asks for 4 bytes, and 32 for each record of the file
 abbrev pub bytesVerdict : List ℕ → List ℕ → Verdict
@@ -99,8 +98,7 @@ fileWords file = countOf Kept (settingsIn file) (listIn file) (tableIn file) ∷
 pub record RudzaviksReduce (file held now : List ℕ) (given : ℕ) : Type 0 where
   pub word : given ≡ reportWord recordsWord (unless (bytesVerdict file held) (fileCounts file))
   pub out : now ≡ left (bytesVerdict file held) (bytesOf (fileWords file)) held
-  -- section 5 again, over what the bytes hold
+  -- section 5 and request 10 again, over what the bytes hold
   pub preserved :
       bytesVerdict file held ≡ Passed
-      → AllStraight (listIn file)
-      → RunsEqual (settingsIn file) (listIn file) (wordsIn now 1 (given * 8))
+      → Preserves (settingsIn file) (listIn file) (wordsIn now 1 (given * 8))

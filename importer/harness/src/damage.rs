@@ -1,7 +1,8 @@
 //! Damaged copies of passing lists.
 
 use crate::limits::MOST_REGS;
-use crate::lists::{statics_after, List};
+use crate::lists::{fresh_after, nth, statics_after, List};
+use crate::mended::target;
 use crate::random::Random;
 use crate::record::WORDS;
 use crate::roles::{words_with, Role};
@@ -23,6 +24,8 @@ pub enum Fault {
     GenTooHigh,
     NoPartner,
     NoStatic,
+    Stale,
+    NoLabel,
 }
 
 use Fault::*;
@@ -30,9 +33,14 @@ use Fault::*;
 /// Faults of the list as a whole.
 pub const OF_LIST: [Fault; 6] = [CountRegs, Args, PartialRecord, LongList, OddTable, LongTable];
 
-/// Faults of one record.
+/// Faults of one record, by questions 5 to 9. The stored answers are damaged by these alone.
 pub const OF_RECORD: [Fault; 8] =
     [Kind, Field, UnusedWord, SpanOutside, PairSpace, GenTooHigh, NoPartner, NoStatic];
+
+/// Faults of one record by 15 too: the first record that has any of them is refused. Question 16
+/// comes after them all.
+pub const IN_TURN: [Fault; 9] =
+    [Kind, Field, UnusedWord, SpanOutside, PairSpace, GenTooHigh, NoPartner, NoStatic, Stale];
 
 impl Fault {
     /// The question that a list with this fault alone is refused by.
@@ -46,6 +54,18 @@ impl Fault {
             GenTooHigh => 7,
             NoPartner => 8,
             NoStatic => 9,
+            Stale => 15,
+            NoLabel => 16,
+        }
+    }
+
+    /// Whether a passing list of so many records may have a place for it in record `at`. A source is
+    /// stale in the third record at the earliest, and a branch has a Label beside it.
+    pub fn may_fit(self, records: usize, at: usize) -> bool {
+        match self {
+            Stale => at > 1,
+            NoLabel => records > 1,
+            _ => true,
         }
     }
 
@@ -70,6 +90,8 @@ impl Fault {
                 set_one_of(random, list, at, is_register, value)
             }
             NoPartner => set_one_of(random, list, at, |role| role == Role::PartnerIndex, u32::MAX),
+            Stale => stale(random, list, at),
+            NoLabel => no_label(random, list, at),
             _ => no_static(random, list, at),
         }
     }
@@ -172,6 +194,30 @@ fn no_static(random: &mut Random, list: &mut List, at: usize) -> bool {
     set_one_of(random, list, at, |role| role == Role::Source, value)
 }
 
+/// A source that was written before a BranchIf and not since.
+fn stale(random: &mut Random, list: &mut List, at: usize) -> bool {
+    let before = |after: fn(&[u32], u64) -> u64| {
+        (0..at).fold(0, |held, before| after(list.record(before), held))
+    };
+    let stale = before(statics_after) & !before(fresh_after);
+    if stale == 0 {
+        return false;
+    }
+    let value = nth(stale, random.below(stale.count_ones()));
+    set_one_of(random, list, at, |role| role == Role::Source, value)
+}
+
+/// A number that no Label has.
+fn no_label(random: &mut Random, list: &mut List, at: usize) -> bool {
+    let labels = list.labels();
+    let numbers = [0, 1, 65_535, 65_536, u32::MAX, random.word()];
+    let free: Vec<u32> = numbers.into_iter().filter(|number| !labels.contains(number)).collect();
+    match target(list.record(at)[0]) {
+        Some(word) if !free.is_empty() => set(list, at, word, random.pick(&free)),
+        _ => false,
+    }
+}
+
 /// A copy with one or two faults, or with one or two words changed to anything.
 pub fn damaged(random: &mut Random, list: &List) -> List {
     let mut copy = list.clone();
@@ -215,5 +261,33 @@ fn any_fault(random: &mut Random, list: &mut List) {
         if random.pick(&OF_RECORD).put(random, list, at) {
             return;
         }
+    }
+}
+
+/// A copy of a list with branches: half of them damaged as any other, half of them by one or two
+/// stale sources, branches to no Label, and Labels that are gone or have another number.
+pub fn damaged_branches(random: &mut Random, list: &List) -> List {
+    if list.records() == 0 || random.percent(50) {
+        return damaged(random, list);
+    }
+    let mut copy = list.clone();
+    for _ in 0..random.between(1, 2) {
+        for _ in 0..20 {
+            let at = random.index(copy.records());
+            if branch_fault(random, &mut copy, at) {
+                break;
+            }
+        }
+    }
+    copy
+}
+
+fn branch_fault(random: &mut Random, list: &mut List, at: usize) -> bool {
+    match random.below(4) {
+        0 | 1 => Stale.put(random, list, at),
+        2 => NoLabel.put(random, list, at),
+        _ if list.record(at)[0] != 15 => false,
+        _ if random.percent(50) => set(list, at, 1, random.below(3)),
+        _ => set(list, at, 0, 0) && set(list, at, 1, 0),
     }
 }

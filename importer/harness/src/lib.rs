@@ -2,6 +2,7 @@
 //! them by the copies of the original and by the questions. Nothing here calls the verified code.
 
 pub mod answers;
+pub mod branch_cases;
 pub mod cases;
 pub mod damage;
 pub mod file;
@@ -9,7 +10,9 @@ pub mod kinds;
 pub mod lent;
 pub mod limits;
 pub mod lists;
+pub mod mended;
 pub mod panics;
+pub mod profile;
 pub mod questions;
 pub mod random;
 pub mod record;
@@ -18,6 +21,7 @@ pub mod roles;
 pub mod run;
 pub mod settings;
 pub mod short;
+pub mod sorts;
 pub mod stored_lists;
 pub mod tally;
 pub mod theorem;

@@ -1,10 +1,13 @@
-//! Random lists that pass every question.
+//! Random lists that pass every question. Those whose name says that they are drawn may be refused
+//! by 15 and 16: the stored answers have them as they are, and the others are mended from them.
 
-use crate::kinds::{load, save, MEM, PARAM};
+use crate::kinds::{branch_if, label, load, load_const_math, load_math, save, uni, MEM, PARAM};
 use crate::limits::MOST_REGS;
+use crate::mended::{mended, target};
+pub use crate::profile::Profile;
 use crate::random::Random;
 use crate::record::{Record, WORDS};
-use crate::roles::{role, Role, KINDS, SCALAR, STRAIGHT};
+use crate::roles::{role, words_with, Role};
 use crate::settings::Settings;
 
 /// A list with its settings and the table that is lent beside it.
@@ -38,155 +41,13 @@ impl List {
 /// The most registers of a list whose `used_registers` the original can tell: its mask has 32 bits.
 pub const USED_REGS: u32 = 32;
 
-/// The parameters of a random list.
-#[derive(Clone, Debug)]
-pub struct Profile {
-    pub settings: Settings,
-    pub records: usize,
-    pub pairs: usize,
-    /// How many spaces are in use, Stack first.
-    pub spaces: u32,
-    /// How many indexes each space has in use. With few of them locations collide.
-    pub cells: u32,
-    /// How many label numbers are in use.
-    pub labels: u32,
-    /// How many of 100 registers are named ones.
-    pub named: u32,
-    /// How many of 100 indexes, constants and labels are at an end of their range.
-    pub extreme: u32,
-    /// How often each kind comes, beside the others.
-    pub weights: [u32; KINDS],
-}
-
-impl Profile {
-    /// All kinds alike, few registers and cells.
-    pub fn plain(records: usize) -> Profile {
-        Profile {
-            settings: Settings { count_regs: 4, ..Settings::default() },
-            records,
-            pairs: 6,
-            spaces: 3,
-            cells: 3,
-            labels: 3,
-            named: 10,
-            extreme: 2,
-            weights: [1; KINDS],
-        }
-    }
-
-    /// Any profile, with at most the given number of records.
-    pub fn random(random: &mut Random, most_records: u32) -> Profile {
-        Profile::within(random, most_records, MOST_REGS)
-    }
-
-    /// Any profile, with at most so many records and registers.
-    pub fn within(random: &mut Random, most_records: u32, most_regs: u32) -> Profile {
-        let most = if random.percent(80) { most_records.min(24) } else { most_records };
-        let pairs = if random.percent(30) { 0 } else { random.index(12) };
-        Profile {
-            settings: random_settings(random, most_regs),
-            records: random.between(0, most) as usize,
-            pairs,
-            spaces: 3,
-            cells: if random.percent(90) { random.between(1, 6) } else { random.between(7, 40) },
-            labels: random.between(1, 6),
-            named: random.pick(&[0, 5, 10, 50, 90]),
-            extreme: random.pick(&[0, 0, 2, 20]),
-            weights: random_weights(random),
-        }
-    }
-
-    /// Mostly two-part records, and scalar ones that meet them: over few registers, and few cells
-    /// on both sides of the fixed mark, so that locations and partners collide.
-    pub fn two_part(random: &mut Random, most_records: u32) -> Profile {
-        let mut weights = [0; KINDS];
-        STRAIGHT.iter().for_each(|kind| weights[*kind as usize] = 1);
-        [4, 5, 6, 9, 20].iter().for_each(|kind| weights[*kind] = 8);
-        [7, 8].iter().for_each(|kind| weights[*kind] = random.pick(&[4, 16]));
-        [10, 12, 15, 17].iter().for_each(|kind| weights[*kind] = random.below(2));
-        let count_regs = random.pick(&[1, 2, 2, 3, 3, 4, 5, 8]);
-        Profile {
-            settings: Settings { count_regs, ..random_settings(random, MOST_REGS) },
-            spaces: random.pick(&[1, 1, 2, 3]),
-            cells: random.between(2, 5),
-            named: random.pick(&[0, 0, 5, 20]),
-            extreme: random.pick(&[0, 0, 0, 10]),
-            weights,
-            ..Profile::plain(random.between(1, most_records) as usize)
-        }
-    }
-
-    /// Half of the records are labels, of few numbers: most of these come more than once, and some
-    /// are missing.
-    pub fn labelled(random: &mut Random, records: usize, most_regs: u32) -> Profile {
-        let mut weights = [1; KINDS];
-        [16, 17].iter().for_each(|kind| weights[*kind] = 3);
-        weights[15] = weights.iter().sum();
-        Profile {
-            settings: random_settings(random, most_regs),
-            extreme: random.pick(&[0, 0, 2, 20]),
-            weights,
-            ..Profile::plain(records)
-        }
-    }
-
-    /// The same profile, with straight kinds alone.
-    pub fn straight(self) -> Profile {
-        self.of_kinds(&STRAIGHT)
-    }
-
-    /// The same profile, with scalar straight-line kinds alone.
-    pub fn scalar(self) -> Profile {
-        self.of_kinds(&SCALAR)
-    }
-
-    fn of_kinds(mut self, kinds: &[u32]) -> Profile {
-        for kind in 0..KINDS {
-            if !kinds.contains(&(kind as u32)) {
-                self.weights[kind] = 0;
-            }
-        }
-        if self.weights.iter().all(|weight| *weight == 0) {
-            kinds.iter().for_each(|kind| self.weights[*kind as usize] = 1);
-        }
-        self
-    }
-}
-
-fn random_settings(random: &mut Random, most_regs: u32) -> Settings {
-    let most = if random.percent(70) { 6 } else { most_regs };
-    let count_regs = random.between(0, most);
-    let small = random.between(0, 5);
-    Settings {
-        count_regs,
-        args: if random.percent(95) { small } else { 65_535 - small },
-        complex: random.percent(50),
-        arm: random.percent(50),
-        compress: random.percent(20),
-    }
-}
-
-fn random_weights(random: &mut Random) -> [u32; KINDS] {
-    let mut weights = [1; KINDS];
-    match random.below(4) {
-        0 => {}
-        // long stretches in which locations stay known
-        1 => {
-            [4, 5, 6, 7, 8].iter().for_each(|kind| weights[*kind] = 20);
-            [2, 3, 9, 14, 18, 20].iter().for_each(|kind| weights[*kind] = 5);
-        }
-        // many labels and jumps
-        2 => [12, 15, 16, 17].iter().for_each(|kind| weights[*kind] = 5),
-        _ => {
-            weights.iter_mut().for_each(|weight| *weight = random.below(10));
-            weights[random.index(KINDS)] += 1;
-        }
-    }
-    weights
-}
-
-/// A list of the profile. Every Gen that it reads was written since the last Label or Call.
+/// A list of the profile.
 pub fn list(random: &mut Random, profile: &Profile) -> List {
+    mended(drawn(random, profile))
+}
+
+/// The same as it is drawn. Every Gen that it reads was written since the last Label or Call.
+pub fn drawn(random: &mut Random, profile: &Profile) -> List {
     let mut generator = Generator { random, profile, has_static: 0 };
     let mut table = Vec::new();
     for _ in 0..profile.pairs {
@@ -199,26 +60,41 @@ pub fn list(random: &mut Random, profile: &Profile) -> List {
 
 /// A list of any profile, one in four of scalar straight-line kinds.
 pub fn any_list(random: &mut Random, most_records: u32) -> List {
+    mended(any_drawn(random, most_records))
+}
+
+/// The same as it is drawn.
+pub fn any_drawn(random: &mut Random, most_records: u32) -> List {
     let profile = Profile::random(random, most_records);
-    any_list_of(random, profile)
+    any_drawn_of(random, profile)
 }
 
 /// The same, of no more registers than the original's `used_registers` can tell.
 pub fn narrow_list(random: &mut Random, most_records: u32) -> List {
+    mended(drawn_narrow(random, most_records))
+}
+
+/// The same as it is drawn.
+pub fn drawn_narrow(random: &mut Random, most_records: u32) -> List {
     let profile = Profile::within(random, most_records, USED_REGS);
-    any_list_of(random, profile)
+    any_drawn_of(random, profile)
 }
 
 /// A list of any profile, but with more registers than that.
 pub fn wide_list(random: &mut Random, most_records: u32) -> List {
-    let mut profile = Profile::random(random, most_records);
-    profile.settings.count_regs = random.between(USED_REGS + 1, MOST_REGS);
-    list(random, &profile)
+    mended(drawn_wide(random, most_records))
 }
 
-fn any_list_of(random: &mut Random, profile: Profile) -> List {
+/// The same as it is drawn.
+pub fn drawn_wide(random: &mut Random, most_records: u32) -> List {
+    let mut profile = Profile::random(random, most_records);
+    profile.settings.count_regs = random.between(USED_REGS + 1, MOST_REGS);
+    drawn(random, &profile)
+}
+
+fn any_drawn_of(random: &mut Random, profile: Profile) -> List {
     let profile = if random.percent(25) { profile.scalar() } else { profile };
-    list(random, &profile)
+    drawn(random, &profile)
 }
 
 /// A list with every one of its registers live at once. Each is loaded from a cell of its own, then
@@ -249,28 +125,116 @@ pub fn two_part_list(random: &mut Random, most_records: u32) -> List {
     list(random, &profile)
 }
 
-/// A list of many labels with few numbers.
-pub fn labelled_list(random: &mut Random, most_records: u32) -> List {
+/// A list of many labels with few numbers, as it is drawn: some branches have no Label.
+pub fn drawn_labelled(random: &mut Random, most_records: u32) -> List {
     let records = random.between(1, most_records) as usize;
     let profile = Profile::labelled(random, records, MOST_REGS);
-    list(random, &profile)
+    drawn(random, &profile)
+}
+
+/// Numbers of labels, at the ends of some ranges and others. Times 2,654,435,761, as tables of
+/// numbers often have it, 0 and the last two differ in their low bits alone.
+const NUMBERS: [u32; 11] = [
+    0,
+    1,
+    7,
+    65_535,
+    65_536,
+    1 << 31,
+    u32::MAX - 1,
+    u32::MAX,
+    0x7fff_ffff,
+    244_002_641,
+    488_005_282,
+];
+
+/// A list of many labels and branches that the machine with jumps runs: of all kinds but LoadArgs,
+/// SaveArgs and Call.
+pub fn branch_list(random: &mut Random, most_records: u32) -> List {
+    let profile = Profile::branching(random, most_records).jumping();
+    numbered_list(random, &profile)
+}
+
+/// A list of many labels and branches, of all kinds.
+pub fn any_branch_list(random: &mut Random, most_records: u32) -> List {
+    let profile = Profile::branching(random, most_records);
+    numbered_list(random, &profile)
+}
+
+/// A list of the profile, with other numbers for its labels; two of them may become one. It has a
+/// Label, at its end if none was drawn, and a branch, at its start.
+fn numbered_list(random: &mut Random, profile: &Profile) -> List {
+    let mut list = drawn(random, profile);
+    let number = |random: &mut Random| match random.percent(90) {
+        true => random.pick(&NUMBERS),
+        false => random.word(),
+    };
+    let numbers: Vec<u32> = (0..profile.labels).map(|_| number(random)).collect();
+    for record in list.words.chunks_exact_mut(WORDS) {
+        for word in words_with(record[0], |role| role == Role::Label) {
+            record[word] = numbers.get(record[word] as usize).copied().unwrap_or(record[word]);
+        }
+    }
+    if list.labels().is_empty() {
+        list.words.extend(label(numbers[0]));
+    }
+    if !list.words.chunks_exact(WORDS).any(|record| target(record[0]).is_some()) {
+        let to = random.pick(&list.labels());
+        list.words.splice(0..0, branch_if(random.between(256, 259), to, random.below(2)));
+    }
+    mended(list)
 }
 
 struct Generator<'a> {
     random: &'a mut Random,
     profile: &'a Profile,
-    /// One bit for each Gen register that has a static.
+    /// One bit for each Gen register that may be read.
     has_static: u64,
 }
 
 impl Generator<'_> {
     fn records(&mut self) -> Vec<u32> {
         let mut words = Vec::with_capacity(self.profile.records * WORDS);
-        for _ in 0..self.profile.records {
-            let kind = self.kind();
-            words.extend(self.record(kind));
+        while words.len() < self.profile.records * WORDS {
+            if self.profile.fresh {
+                self.fresh_records(&mut words);
+            } else {
+                let kind = self.kind();
+                words.extend(self.record(kind));
+            }
         }
         words
+    }
+
+    /// A load or a constant where no register may be read, three times in four; and three of four
+    /// BranchIf go by a cell that is changed just before, so that many a loop ends.
+    fn fresh_records(&mut self, words: &mut Vec<u32>) {
+        if self.has_static == 0 && self.random.percent(75) {
+            let kind = self.random.pick(&[5, 5, 5, 9]);
+            return words.extend(self.record(kind));
+        }
+        match self.kind() {
+            17 if self.random.percent(75) => {
+                let records = self.changed_and_asked();
+                words.extend(records.as_flattened());
+            }
+            kind => words.extend(self.record(kind)),
+        }
+    }
+
+    /// A cell is loaded, changed and saved, and then decides.
+    fn changed_and_asked(&mut self) -> [Record; 4] {
+        let (register, (space, index)) = (self.destination(), self.cell());
+        let (op, constant) = (self.random.below(4), self.any());
+        let change = match self.random.below(3) {
+            0 => uni(op, register, register),
+            1 => load_math(op, register, register, space, index),
+            _ => load_const_math(op, register, register, constant),
+        };
+        let asked = branch_if(register, self.label(), self.random.below(2));
+        let records = [load(register, space, index), change, save(register, space, index), asked];
+        records.iter().for_each(|record| self.rename(record));
+        records
     }
 
     fn kind(&mut self) -> u32 {
@@ -311,7 +275,10 @@ impl Generator<'_> {
     }
 
     fn rename(&mut self, record: &Record) {
-        self.has_static = statics_after(record, self.has_static);
+        self.has_static = match self.profile.fresh {
+            true => fresh_after(record, self.has_static),
+            false => statics_after(record, self.has_static),
+        };
     }
 
     fn named(&mut self) -> u32 {
@@ -322,13 +289,7 @@ impl Generator<'_> {
         if self.has_static == 0 || self.random.percent(self.profile.named) {
             return self.named();
         }
-        let mut left = self.random.below(self.has_static.count_ones());
-        let mut mask = self.has_static;
-        while left > 0 {
-            mask &= mask - 1;
-            left -= 1;
-        }
-        mask.trailing_zeros()
+        nth(self.has_static, self.random.below(self.has_static.count_ones()))
     }
 
     fn destination(&mut self) -> u32 {
@@ -382,4 +343,20 @@ pub fn statics_after(record: &[u32], before: u64) -> u64 {
         }
     }
     after
+}
+
+/// The same of those that were written since the last BranchIf too.
+pub fn fresh_after(record: &[u32], before: u64) -> u64 {
+    match record[0] {
+        17 => 0,
+        _ => statics_after(record, before),
+    }
+}
+
+/// The bit of the mask that has so many set ones below it.
+pub fn nth(mut mask: u64, below: u32) -> u32 {
+    for _ in 0..below {
+        mask &= mask - 1;
+    }
+    mask.trailing_zeros()
 }

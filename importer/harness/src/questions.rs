@@ -2,19 +2,34 @@
 //!
 //! This is a second statement of them: it shares nothing with the verified code.
 
+use std::collections::HashSet;
+
 use crate::limits::MOST_REGS;
 use crate::settings::Settings;
 
 /// The number of the question that was answered no, and the record's index.
 pub type Refusal = (u32, usize);
 
+/// The last question's number. Those of 10 to 14 are not in use.
+pub const LAST: usize = 16;
+
 const LAST_INDEX: u32 = 4_294_967_295;
 
-/// Whether each Gen register has a static.
-type Statics = [bool; MOST_REGS as usize];
-const NONE: Statics = [false; MOST_REGS as usize];
+/// A mark on each Gen register.
+type Marks = [bool; MOST_REGS as usize];
+const NONE: Marks = [false; MOST_REGS as usize];
+const ALL: Marks = [true; MOST_REGS as usize];
 
-/// The nine questions before reducing. `room` is the answer to the fourth, on the lent buffers.
+/// What the records before one have made of the Gen registers.
+struct Registers {
+    /// Whether each has a static.
+    has_static: Marks,
+    /// Whether a BranchIf came since it was written.
+    stale: Marks,
+}
+
+/// The eleven questions before reducing: 1 to 9, 15 and 16. `room` is the answer to the fourth, on
+/// the lent buffers.
 pub fn refusal(settings: &Settings, list: &[u32], table: &[u32], room: bool) -> Option<Refusal> {
     if settings.count_regs > MOST_REGS {
         return Some((1, 0));
@@ -28,16 +43,16 @@ pub fn refusal(settings: &Settings, list: &[u32], table: &[u32], room: bool) -> 
     if !room {
         return Some((4, 0));
     }
-    let mut has_static = NONE;
+    let mut registers = Registers { has_static: NONE, stale: NONE };
     for (index, record) in list.chunks_exact(8).enumerate() {
         let number =
-            first_no(record, table, settings.count_regs).or_else(|| later_no(record, &has_static));
+            first_no(record, table, settings.count_regs).or_else(|| later_no(record, &registers));
         if let Some(number) = number {
             return Some((number, index));
         }
-        rename(record, &mut has_static);
+        rename(record, &mut registers);
     }
-    None
+    branch_to_none(list).map(|index| (16, index))
 }
 
 /// The questions of the operation beside the passes: 1 and 3 to 7. `room` is the answer to the
@@ -80,8 +95,8 @@ fn first_no(record: &[u32], table: &[u32], count_regs: u32) -> Option<u32> {
     None
 }
 
-/// Questions 8 and 9 on one record.
-fn later_no(record: &[u32], has_static: &Statics) -> Option<u32> {
+/// Questions 8, 9 and 15 on one record.
+fn later_no(record: &[u32], Registers { has_static, stale }: &Registers) -> Option<u32> {
     if (record[0] == 7 || record[0] == 8) && record[4] == LAST_INDEX {
         return Some(8);
     }
@@ -89,19 +104,37 @@ fn later_no(record: &[u32], has_static: &Statics) -> Option<u32> {
     if !sources(record).iter().all(named) {
         return Some(9);
     }
+    if sources(record).iter().any(|register| *register <= 255 && stale[*register as usize]) {
+        return Some(15);
+    }
     None
 }
 
-/// A written Gen register has a static from then on; Label and Call forget them all.
-fn rename(record: &[u32], has_static: &mut Statics) {
-    if record[0] == 12 || record[0] == 15 {
-        *has_static = NONE;
+/// A written Gen register has a static from then on; Label and Call forget them all, and a BranchIf
+/// makes them all stale until they are written again.
+fn rename(record: &[u32], registers: &mut Registers) {
+    match record[0] {
+        12 | 15 => registers.has_static = NONE,
+        17 => registers.stale = ALL,
+        _ => {}
     }
     for register in destinations(record) {
         if *register <= 255 {
-            has_static[*register as usize] = true;
+            registers.has_static[*register as usize] = true;
+            registers.stale[*register as usize] = false;
         }
     }
+}
+
+/// Question 16: the first Branch or BranchIf whose number no Label has.
+fn branch_to_none(list: &[u32]) -> Option<usize> {
+    let labels = list.chunks_exact(8).filter(|r| r[0] == 15).map(|r| r[1]);
+    let labels: HashSet<u32> = labels.collect();
+    list.chunks_exact(8).position(|r| match r[0] {
+        16 => !labels.contains(&r[1]),
+        17 => !labels.contains(&r[2]),
+        _ => false,
+    })
 }
 
 /// Question 6.

@@ -32,6 +32,9 @@ pub const SCALAR: [u32; 12] = [0, 1, 2, 3, 4, 5, 6, 9, 13, 14, 18, 19];
 /// Straight kinds: those, and the three two-part ones.
 pub const STRAIGHT: [u32; 15] = [0, 1, 2, 3, 4, 5, 6, 7, 8, 9, 13, 14, 18, 19, 20];
 
+/// Straight kinds and those of jumps: all but LoadArgs, SaveArgs and Call.
+pub const JUMPING: [u32; 18] = [0, 1, 2, 3, 4, 5, 6, 7, 8, 9, 13, 14, 15, 16, 17, 18, 19, 20];
+
 /// The roles of words 1 to 7 as far as the kind uses them.
 const USED: [&[Role]; KINDS] = [
     &[],

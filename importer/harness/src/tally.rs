@@ -3,7 +3,7 @@
 /// Whose answer it is.
 #[derive(Clone, Copy, Debug, PartialEq, Eq)]
 pub enum By {
-    /// The list is refused.
+    /// The list is refused. By 15 and 16 it left the oracle runs: the original reduces it.
     Question,
     /// The unchanged copy's; the amended one leaves the same.
     Original,

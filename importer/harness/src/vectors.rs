@@ -18,15 +18,18 @@
 //! of `optimize` the amended copy's, and a mask of more than 32 registers that of `used`; none is
 //! the verified code's.
 
-use crate::damage::damaged;
 use crate::damage::Fault::{CountRegs, Kind, OddTable, PartialRecord};
+use crate::damage::{damaged, damaged_branches};
 use crate::file::bytes;
+use crate::kinds::branch;
 use crate::lent::{room, Lent, PARTS};
 use crate::limits::MOST_REGS;
-use crate::lists::{all_live_list, list, narrow_list, wide_list, List, Profile, USED_REGS};
+use crate::lists::{
+    all_live_list, any_branch_list, drawn, drawn_narrow, drawn_wide, list, List, Profile, USED_REGS,
+};
 use crate::random::Random;
 use crate::settings::{set_flag, Settings};
-use crate::{answers, limits, stored_lists, worked_examples};
+use crate::{answers, branch_cases, limits, stored_lists, worked_examples};
 
 /// The replay's buffers hold this many records and pairs.
 pub const MOST_RECORDS: usize = 512;
@@ -205,7 +208,7 @@ pub fn cases() -> Vec<Case> {
     }
     builder.add_both(largest_fields(USED_REGS), u32::MAX);
     for _ in 0..125 {
-        let list = narrow_list(&mut builder.random, 16);
+        let list = drawn_narrow(&mut builder.random, 16);
         builder.add_any(list.clone());
         let copy = damaged(&mut builder.random, &list);
         builder.add_any(copy);
@@ -216,6 +219,7 @@ pub fn cases() -> Vec<Case> {
     add_reduced(&mut builder);
     add_surveyed(&mut builder);
     add_wide(&mut builder);
+    add_branches(&mut builder);
     builder.cases
 }
 
@@ -227,7 +231,7 @@ fn largest_fields(count_regs: u32) -> List {
 /// The longest list and table that fit; then the same with a last record of no kind.
 fn add_long(builder: &mut Builder) {
     let profile = Profile { pairs: MOST_PAIRS, labels: 20, ..Profile::plain(MOST_RECORDS) };
-    let mut long = list(&mut builder.random, &profile);
+    let mut long = drawn(&mut builder.random, &profile);
     let label = long.labels()[0];
     builder.add_both(long.clone(), label);
     long.record_mut(MOST_RECORDS - 1)[0] = 21;
@@ -238,19 +242,19 @@ fn add_long(builder: &mut Builder) {
 /// longest list that fits, and three more known ones.
 fn add_reduced(builder: &mut Builder) {
     worked_examples::cases().into_iter().for_each(|case| builder.add_optimize(case.list));
-    stored_lists::twelve().into_iter().for_each(|named| builder.add_optimize(named.list));
+    stored_lists::stored().into_iter().for_each(|list| builder.add_optimize(list));
     builder.add_optimize(largest_fields(MOST_REGS));
     for _ in 0..45 {
-        let list = narrow_list(&mut builder.random, 16);
+        let list = drawn_narrow(&mut builder.random, 16);
         builder.add_optimize(list.clone());
         let copy = damaged(&mut builder.random, &list);
         builder.add_optimize(copy);
     }
     for slice in 0..5 {
-        let list = list(&mut builder.random, &Profile::plain(3));
+        let list = drawn(&mut builder.random, &Profile::plain(3));
         builder.add_too_short(list, slice);
     }
-    let long = list(&mut builder.random, &Profile::plain(MOST_RECORDS));
+    let long = drawn(&mut builder.random, &Profile::plain(MOST_RECORDS));
     builder.add_optimize(long);
     stored_lists::two_part().into_iter().for_each(|named| builder.add_optimize(named.list));
 }
@@ -261,14 +265,14 @@ fn add_surveyed(builder: &mut Builder) {
     worked_examples::cases().into_iter().for_each(|case| builder.add_survey(case.list, 7));
     builder.add_survey(largest_fields(MOST_REGS), u32::MAX);
     for _ in 0..14 {
-        let list = narrow_list(&mut builder.random, 12);
+        let list = drawn_narrow(&mut builder.random, 12);
         builder.add_survey_of_any(list.clone());
         let copy = damaged(&mut builder.random, &list);
         builder.add_survey_of_any(copy);
     }
     for turn in 0..8 {
         let profile = Profile::labelled(&mut builder.random, 12, USED_REGS);
-        let mut list = list(&mut builder.random, &profile);
+        let mut list = drawn(&mut builder.random, &profile);
         list.settings.compress = turn % 2 == 0;
         builder.add_survey(list, turn / 2);
     }
@@ -279,11 +283,11 @@ fn add_surveyed(builder: &mut Builder) {
 /// fault, which comes with room as well. Questions 1 and 3 come before the fourth, 5 after it.
 fn add_parts_too_short(builder: &mut Builder) {
     for parts_len in 0..PARTS {
-        let list = list(&mut builder.random, &Profile::plain(3));
+        let list = drawn(&mut builder.random, &Profile::plain(3));
         builder.add(list, Survey { label: 0, parts_len });
     }
     for (parts_len, fault) in [CountRegs, PartialRecord, OddTable, Kind].into_iter().enumerate() {
-        let mut list = list(&mut builder.random, &Profile::plain(3));
+        let mut list = drawn(&mut builder.random, &Profile::plain(3));
         fault.put(&mut builder.random, &mut list, 0);
         builder.add(list.clone(), Survey { label: 0, parts_len });
         builder.add_survey(list, 0);
@@ -300,7 +304,7 @@ fn add_wide(builder: &mut Builder) {
     live.into_iter().for_each(|list| builder.add_reduced_and_surveyed(list));
     builder.add_survey_of_any(compressed);
     for turn in 0..6 {
-        let list = wide_list(&mut builder.random, 12);
+        let list = drawn_wide(&mut builder.random, 12);
         builder.add_reduced_and_surveyed(list.clone());
         let too_many = Settings { count_regs: MOST_REGS + 1, ..list.settings };
         let copy = match turn {
@@ -309,6 +313,29 @@ fn add_wide(builder: &mut Builder) {
         };
         builder.add_reduced_and_surveyed(copy);
     }
+}
+
+/// Lists with branches, to be reduced: known ones, of which those that 15 or 16 refuses are surveyed
+/// too; random ones with a damaged copy; and the longest list that fits, which passes, then with a
+/// branch to no Label at the very end.
+fn add_branches(builder: &mut Builder) {
+    builder.add_optimize(stored_lists::branches().list);
+    for case in branch_cases::cases() {
+        if let Some((15 | 16, _)) = case.refused {
+            builder.add_survey_of_any(case.list.clone());
+        }
+        builder.add_optimize(case.list);
+    }
+    for _ in 0..40 {
+        let list = any_branch_list(&mut builder.random, 16);
+        builder.add_optimize(list.clone());
+        let copy = damaged_branches(&mut builder.random, &list);
+        builder.add_optimize(copy);
+    }
+    let mut long = list(&mut builder.random, &Profile::plain(MOST_RECORDS));
+    builder.add_optimize(long.clone());
+    long.record_mut(MOST_RECORDS - 1).copy_from_slice(&branch(65_535));
+    builder.add_optimize(long);
 }
 
 /// Lists with all registers live at once, without and with records between. Of each the records

@@ -4,13 +4,13 @@ use std::collections::BTreeSet;
 
 use harness::limits::MOST_REGS;
 use harness::lists::{
-    all_live_list, any_list, labelled_list, list, narrow_list, two_part_list, List, Profile,
-    USED_REGS,
+    all_live_list, any_branch_list, any_list, branch_list, drawn_labelled, list, narrow_list,
+    two_part_list, wide_list, List, Profile, USED_REGS,
 };
 use harness::questions::refusal;
 use harness::random::Random;
 use harness::record::WORDS;
-use harness::roles::{words_with, Role, KINDS, SCALAR, STRAIGHT};
+use harness::roles::{words_with, Role, JUMPING, KINDS, SCALAR, STRAIGHT};
 use harness::{how_many, limits, run};
 
 fn pass_every_question(lists: u64, generate: impl Fn(&mut Random) -> List) {
@@ -26,8 +26,10 @@ fn pass_every_question(lists: u64, generate: impl Fn(&mut Random) -> List) {
 fn lists_pass_every_question() {
     pass_every_question(how_many(500_000), |random| any_list(random, 80));
     pass_every_question(how_many(100_000), |random| two_part_list(random, 80));
-    pass_every_question(how_many(100_000), |random| labelled_list(random, 80));
     pass_every_question(how_many(100_000), |random| narrow_list(random, 80));
+    pass_every_question(how_many(100_000), |random| wide_list(random, 80));
+    pass_every_question(how_many(100_000), |random| branch_list(random, 80));
+    pass_every_question(how_many(100_000), |random| any_branch_list(random, 80));
 }
 
 #[test]
@@ -123,6 +125,7 @@ fn gives_the_kinds(narrowed: fn(Profile) -> Profile, kinds: &[u32]) {
 fn straight_lists_are_straight() {
     gives_the_kinds(Profile::straight, &STRAIGHT);
     gives_the_kinds(Profile::scalar, &SCALAR);
+    gives_the_kinds(Profile::jumping, &JUMPING);
 }
 
 /// With one register and with more, on each side of the fixed mark and across it, with the same
@@ -161,7 +164,7 @@ fn labelled_lists_have_many_labels() {
     let mut random = Random::new(16);
     let (mut records, mut labels, mut few) = (0, 0, 0);
     for _ in 0..2_000 {
-        let list = labelled_list(&mut random, 40);
+        let list = drawn_labelled(&mut random, 40);
         records += list.records();
         labels += list.labels().len();
         few += list.labels().iter().filter(|label| **label < 3).count();

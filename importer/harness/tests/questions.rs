@@ -1,9 +1,11 @@
 //! The statement of the questions, against faults put in by hand and against the original.
 
-use harness::damage::{damaged, Fault, OF_LIST, OF_RECORD};
-use harness::lists::{any_list, list, List, Profile};
+use harness::branch_cases;
+use harness::damage::{damaged, damaged_branches, Fault, IN_TURN, OF_LIST};
+use harness::lists::{any_branch_list, any_list, list, List, Profile};
+use harness::mended::mended;
 use harness::panics::caught;
-use harness::questions::{refusal, refusal_beside, Refusal};
+use harness::questions::{refusal, refusal_beside, Refusal, LAST};
 use harness::random::Random;
 use harness::settings::Settings;
 use harness::{how_many, run};
@@ -30,8 +32,8 @@ fn asked_beside(number: u32) -> bool {
 #[test]
 fn each_fault_of_a_record_has_its_number_and_place() {
     let mut random = Random::new(21);
-    for fault in OF_RECORD {
-        for at in [0, 5, 10] {
+    for fault in IN_TURN.into_iter().chain([Fault::NoLabel]) {
+        for at in [0, 5, 10].into_iter().filter(|at| fault.may_fit(11, *at)) {
             let mut times = 0;
             for _ in 0..2_000 {
                 let mut list = some_list(&mut random, 11);
@@ -127,7 +129,7 @@ fn the_first_bad_record_decides() {
     for _ in 0..20_000 {
         let mut list = some_list(&mut random, 12);
         let (first, second) = (random.index(6), 6 + random.index(6));
-        let (early, late) = (random.pick(&OF_RECORD), random.pick(&OF_RECORD));
+        let (early, late) = (random.pick(&IN_TURN), random.pick(&IN_TURN));
         if late.put(&mut random, &mut list, second) && early.put(&mut random, &mut list, first) {
             times += 1;
             assert_eq!(whole(&list), Some((early.number(), first)), "{list:?}");
@@ -141,9 +143,9 @@ fn the_lower_question_decides() {
     let mut random = Random::new(25);
     let mut times = 0;
     for _ in 0..40_000 {
-        let mut list = some_list(&mut random, 3);
-        let at = random.index(3);
-        let (low, high) = (random.pick(&OF_RECORD), random.pick(&OF_RECORD));
+        let mut list = some_list(&mut random, 6);
+        let at = random.index(6);
+        let (low, high) = (random.pick(&IN_TURN), random.pick(&IN_TURN));
         if low.number() < high.number()
             && high.put(&mut random, &mut list, at)
             && low.put(&mut random, &mut list, at)
@@ -183,6 +185,11 @@ fn panic_agrees(list: &List, no: Option<Refusal>) {
                 assert_eq!(result.is_err(), panics, "{list:?}");
             }
         }
+        // nothing else is wrong with the list, and so the original reduces it
+        Some((15 | 16, _)) if whole(&mended(list.clone())).is_none() => {
+            assert!(result.is_ok(), "{list:?}");
+        }
+        Some((15, _)) => {}
         Some(no) => panic!("{no:?} is no question of the original's: {list:?}"),
     }
 }
@@ -190,17 +197,41 @@ fn panic_agrees(list: &List, no: Option<Refusal>) {
 #[test]
 fn the_original_panics_where_a_list_is_refused() {
     let mut random = Random::new(26);
-    let mut times = [0u32; 10];
-    for _ in 0..how_many(200_000) {
-        let list = any_list(&mut random, 40);
-        panic_agrees(&list, None);
-        let list = damaged(&mut random, &list);
-        let no = whole(&list);
+    let mut times = [0u32; LAST + 1];
+    for turn in 0..how_many(200_000) {
+        let damaged = match turn % 2 {
+            0 => {
+                let list = any_list(&mut random, 40);
+                panic_agrees(&list, None);
+                damaged(&mut random, &list)
+            }
+            _ => {
+                let list = any_branch_list(&mut random, 40);
+                damaged_branches(&mut random, &list)
+            }
+        };
+        let no = whole(&damaged);
         let number = no.map_or(0, |(number, _)| number);
-        if matches!(number, 0 | 7..=9) && run::mir(&list).is_some() {
+        if matches!(number, 0 | 7..=9 | 15 | 16) && run::mir(&damaged).is_some() {
             times[number as usize] += 1;
-            panic_agrees(&list, no);
+            panic_agrees(&damaged, no);
         }
     }
-    assert!([0, 7, 8, 9].iter().all(|number| times[*number] > 100), "{times:?}");
+    assert!([0, 7, 8, 9, 15, 16].iter().all(|number| times[*number] > 100), "{times:?}");
+}
+
+/// The lists that were chosen for questions 15 and 16. Beside the passes neither is put.
+#[test]
+fn branches_by_hand() {
+    let mut times = [0u32; LAST + 1];
+    for case in branch_cases::cases() {
+        assert_eq!(whole(&case.list), case.refused, "{}", case.name);
+        let known = case.list.words.chunks_exact(8).all(|record| record[0] <= 20);
+        if known && matches!(case.refused, None | Some((8.., _))) {
+            assert_eq!(beside(&case.list), None, "{}", case.name);
+        }
+        times[case.refused.map_or(0, |(number, _)| number as usize)] += 1;
+    }
+    assert!(times[0] > 15 && times[15] > 25 && times[16] > 15, "{times:?}");
+    assert!([5, 6, 7, 8, 9].iter().all(|number| times[*number] > 0), "{times:?}");
 }

@@ -7,7 +7,7 @@ use harness::record::{Record, WORDS};
 use harness::reduced::Reduced;
 use harness::roles::{role, Role, KINDS};
 use harness::run::{both, optimize, reduced};
-use harness::stored_lists::{every_colour_holds, lists, Named};
+use harness::stored_lists::{every_colour_holds, lists, overwritten, stored, twelve, Named};
 use harness::tally::By;
 use harness::theorem::text;
 
@@ -50,6 +50,16 @@ fn fifteen_lists_that_pass() {
         let most = if name == "thirty-two" { 20 } else { 10 };
         assert!((4..=most).contains(&list.records()), "{name}");
     }
+}
+
+/// Among the stored answers one list is as it was before question 15 refused it.
+#[test]
+fn a_stored_list_is_refused() {
+    let others = twelve().into_iter().zip(stored()).filter(|(named, list)| named.list != *list);
+    let others: Vec<(&str, List)> = others.map(|(named, list)| (named.name, list)).collect();
+    assert_eq!(others, [("branches", overwritten())]);
+    let List { settings, words, table } = overwritten();
+    assert_eq!(refusal(&settings, &words, &table, true), Some((15, 4)));
 }
 
 #[test]

@@ -21,7 +21,7 @@ fn the_cases_fit_the_replay() {
             Operation::Survey { parts_len, .. } => assert!(parts_len <= MOST_PARTS),
         }
     }
-    assert!(file().len() <= 430_000, "{} bytes", file().len());
+    assert!(file().len() <= 560_000, "{} bytes", file().len());
 }
 
 /// The operation's number in the file.
@@ -52,15 +52,16 @@ fn every_sort_of_answer_is_there() {
         assert!(used >= 4 && placed >= 4, "{number}: {used} and {placed}");
         assert!(times(4, &numbered(number)) >= 2, "{number}: {answers:?}");
     }
-    for number in 0..=9 {
+    for number in (0..=9).chain([15, 16]) {
         assert!(times(3, &numbered(number)) >= 2, "{number}");
     }
+    assert!([15, 16].iter().all(|number| times(3, &numbered(*number)) >= 20));
     assert!(times(1, &|answer| answer >> 56 == 64) >= 10);
     for (operation, least) in [(2, 10), (4, 8)] {
         assert!(times(operation, &|answer| answer == u64::from(ABSENT)) >= least, "{operation}");
         assert!(times(operation, &|answer| answer < 512) >= least, "{operation}");
     }
-    assert!(times(3, &numbered(0)) >= 50);
+    assert!(times(3, &numbered(0)) >= 120);
 }
 
 /// Operations 1 and 2 have lists of at most 32 registers, or refused ones.

@@ -6,7 +6,7 @@ use std::fmt;
 /// The question that was answered no, and the index of the record that it was put to.
 #[derive(Clone, Copy, Debug, PartialEq, Eq)]
 pub struct Refusal {
-    /// The question's number, 1 to 9.
+    /// The question's number: 1 to 9, 15 or 16.
     pub number: u32,
     /// The record's index, from 0 on; 0 for questions 1 to 4, which are about the whole list.
     pub index: u32,
@@ -27,6 +27,8 @@ impl Refusal {
             9 => {
                 "it reads a general register not written since the start or the last label or call"
             }
+            15 => "it reads a general register not written since the last conditional branch",
+            16 => "no label has the number that it jumps to",
             _ => "there is no such question",
         }
     }
@@ -61,10 +63,11 @@ mod tests {
 
     #[test]
     fn each_question_has_words_of_its_own() {
+        let numbers = (0..=9).chain([15, 16]);
         let mut reasons: Vec<&str> =
-            (0..10).map(|number| Refusal { number, index: 0 }.reason()).collect();
+            numbers.map(|number| Refusal { number, index: 0 }.reason()).collect();
         reasons.sort_unstable();
         reasons.dedup();
-        assert_eq!(reasons.len(), 10);
+        assert_eq!(reasons.len(), 12);
     }
 }

@@ -1,9 +1,11 @@
 //! Lists with faults at known places. Each is handed to a check with the number and the index that
 //! it is to be refused with.
 
-use harness::damage::{Fault, OF_RECORD};
+use harness::damage::{Fault, IN_TURN, OF_RECORD};
+use harness::kinds::{branch_if, label, load_const, RET};
 use harness::limits::MOST_REGS;
-use harness::lists::{list, List, Profile};
+use harness::lists::{any_branch_list, list, List, Profile};
+use harness::questions::LAST;
 use harness::random::Random;
 use harness::settings::Settings;
 
@@ -14,14 +16,21 @@ pub fn some_list(random: &mut Random, records: usize) -> List {
     list(random, &Profile { settings, ..Profile::plain(records) })
 }
 
-/// Each fault in the first, a middle and the last record.
+/// Every fault that one record may have.
+pub fn of_any_record() -> Vec<Fault> {
+    [&IN_TURN[..], &[Fault::NoLabel]].concat()
+}
+
+/// Each fault in the first, a middle and the last record, where it may fit.
 pub fn each_fault_at_places(
     random: &mut Random,
     faults: &[Fault],
     mut check: impl FnMut(&List, u32, usize),
 ) {
+    let places = [(1, 0), (11, 0), (11, 5), (11, 10)];
     for fault in faults {
-        for (records, at) in [(1, 0), (11, 0), (11, 5), (11, 10)] {
+        let may_fit = |(records, at): &(usize, usize)| fault.may_fit(*records, *at);
+        for (records, at) in places.into_iter().filter(may_fit) {
             let mut times = 0;
             for _ in 0..2_000 {
                 let mut list = some_list(random, records);
@@ -130,7 +139,7 @@ pub fn faults_in_one_record(
     faults: &[Fault],
     mut check: impl FnMut(&List, u32, usize),
 ) {
-    let mut times = [[0u32; 10]; 10];
+    let mut times = [[0u32; LAST + 1]; LAST + 1];
     for _ in 0..60_000 {
         let mut list = some_list(random, 3);
         let at = random.index(3);
@@ -147,5 +156,66 @@ pub fn faults_in_one_record(
         for high in low + 1..=9 {
             assert!(times[low as usize][high as usize] > 20, "{low} with {high}: {times:?}");
         }
+    }
+}
+
+/// A list that passes, whose written registers are all stale at the record with the index that comes
+/// with it. One register is never written.
+fn list_with_stale(random: &mut Random) -> (List, usize) {
+    let count_regs = random.between(2, MOST_REGS);
+    let settings = Settings { count_regs, ..Settings::default() };
+    let profile = Profile { settings, ..Profile::plain(1) };
+    let mut some = list(random, &profile);
+    let mut words: Vec<u32> = (0..count_regs - 1).flat_map(|reg| load_const(reg, reg)).collect();
+    words.extend(branch_if(RET, 7, 0));
+    words.append(&mut some.words);
+    words.extend(label(7));
+    (List { words, ..some }, count_regs as usize)
+}
+
+/// A record with a stale source and one of the faults: that decides.
+pub fn faults_with_a_stale_source(
+    random: &mut Random,
+    faults: &[Fault],
+    mut check: impl FnMut(&List, u32, usize),
+) {
+    let mut times = [0u32; LAST + 1];
+    for _ in 0..60_000 {
+        let (mut list, at) = list_with_stale(random);
+        let low = random.pick(faults);
+        if Fault::Stale.put(random, &mut list, at) && low.put(random, &mut list, at) {
+            times[low.number() as usize] += 1;
+            check(&list, low.number(), at);
+        }
+    }
+    for low in faults.iter().map(|fault| fault.number()) {
+        assert!(times[low as usize] > 20, "{low} with 15: {times:?}");
+    }
+}
+
+/// Puts a fault into the first record from some place on that it fits, round the whole list.
+pub fn put_somewhere(random: &mut Random, fault: Fault, list: &mut List) -> Option<usize> {
+    let records = list.records();
+    let start = random.index(records);
+    (0..records).map(|at| (start + at) % records).find(|at| fault.put(random, list, *at))
+}
+
+/// A branch to no Label, and a fault before or behind it: that decides. Of two such branches the
+/// first is told.
+pub fn faults_with_no_label(random: &mut Random, mut check: impl FnMut(&List, u32, usize)) {
+    let mut times = [[0u32; 2]; LAST + 1];
+    for _ in 0..20_000 {
+        let mut list = any_branch_list(random, 20);
+        let fault = random.pick(&of_any_record());
+        let Some(at) = put_somewhere(random, Fault::NoLabel, &mut list) else { continue };
+        let Some(other) = put_somewhere(random, fault, &mut list) else { continue };
+        if at != other {
+            times[fault.number() as usize][usize::from(other > at)] += 1;
+            let first = if fault == Fault::NoLabel { at.min(other) } else { other };
+            check(&list, fault.number(), first);
+        }
+    }
+    for number in [5, 6, 7, 8, 9, 15, 16] {
+        assert!(times[number].iter().all(|times| *times > 50), "{number}: {times:?}");
     }
 }

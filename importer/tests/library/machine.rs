@@ -1,6 +1,7 @@
-//! The plain machine of docs/SPECIFICATION.md, section 5, for lists of straight kinds. A seed
-//! stands for the state that a run starts from and for what the operations give. Of the words that
-//! it makes up one in four is 0 or minus zero; the others are hardly ever alike by chance.
+//! The plain machine of docs/SPECIFICATION.md, section 5, for lists of all kinds but LoadArgs,
+//! SaveArgs and Call. A seed stands for the state that a run starts from, for what the operations
+//! give, and for which words make a BranchIf jump. Of the words that it makes up one in four is 0 or
+//! minus zero; the others are hardly ever alike by chance.
 
 use std::collections::{HashMap, HashSet};
 
@@ -18,10 +19,43 @@ fn is_true(word: u64) -> bool {
     word != 0 && word != MINUS_ZERO
 }
 
-/// Runs instructions on a machine, and gives it back.
-pub fn run(code: &[Instruction], mut machine: Machine) -> Machine {
-    code.iter().for_each(|ins| machine.run(ins));
-    machine
+/// Runs instructions without jumps on a machine, and gives it back.
+pub fn run(code: &[Instruction], machine: Machine) -> Machine {
+    run_within(code, machine, code.len() as u64).expect("a run without jumps ends").machine
+}
+
+/// A run that has come to its end.
+pub struct Ended {
+    pub machine: Machine,
+    /// How many instructions were run, each time anew.
+    pub steps: u64,
+    /// How many jumps went back.
+    pub backward: u64,
+}
+
+/// Runs instructions on a machine until End is met or the last one is passed; none if that takes
+/// more steps than the budget. A jump goes to the last Label with its number.
+pub fn run_within(code: &[Instruction], mut machine: Machine, budget: u64) -> Option<Ended> {
+    let labels = code.iter().enumerate().filter_map(|(at, ins)| match ins {
+        Instruction::Label { label } => Some((*label, at)),
+        _ => None,
+    });
+    let places: HashMap<u32, usize> = labels.collect();
+    let (mut at, mut steps, mut backward) = (0, 0, 0);
+    while at < code.len() && !machine.is_over() {
+        if steps == budget {
+            return None;
+        }
+        steps += 1;
+        let next = match machine.jump(&code[at]) {
+            Some(label) => *places.get(&label).expect("question 16 asks for a Label"),
+            None => at + 1,
+        };
+        backward += u64::from(next < at);
+        machine.run(&code[at]);
+        at = next;
+    }
+    Some(Ended { machine, steps, backward })
 }
 
 #[derive(Default)]
@@ -30,11 +64,18 @@ pub struct Machine {
     regs: HashMap<Reg, u64>,
     cells: HashMap<Loc, u64>,
     over: bool,
+    /// Which words make a BranchIf jump, where the seed does not tell.
+    jumps: Option<fn(u64, bool) -> bool>,
 }
 
 impl Machine {
     pub fn new(seed: u64) -> Machine {
         Machine { seed, ..Machine::default() }
+    }
+
+    /// The same, but with BranchIf jumping by this test of the condition's word and `is_else`.
+    pub fn jumping(seed: u64, jumps: fn(u64, bool) -> bool) -> Machine {
+        Machine { jumps: Some(jumps), ..Machine::new(seed) }
     }
 
     /// A word made of a text and words.
@@ -73,7 +114,22 @@ impl Machine {
         self.word(op, &words)
     }
 
-    /// Runs one instruction, unless the run is over. Of two words x's is written first.
+    /// The label that an instruction jumps to from this state.
+    fn jump(&self, ins: &Instruction) -> Option<u32> {
+        match *ins {
+            Instruction::Branch { label } => Some(label),
+            Instruction::BranchIf { cond, label, is_else } => {
+                let word = self.reg(cond);
+                let by_seed = || self.word("jump", &[word, u64::from(is_else)]) >> 20 & 1 == 1;
+                let jumps = self.jumps.map_or_else(by_seed, |jumps| jumps(word, is_else));
+                jumps.then_some(label)
+            }
+            _ => None,
+        }
+    }
+
+    /// Runs one instruction, unless the run is over. Of two words x's is written first. Where a jump
+    /// goes is `run_within`'s to see.
     pub fn run(&mut self, ins: &Instruction) {
         if self.over {
             return;
@@ -101,7 +157,8 @@ impl Machine {
     fn run_scalar(&mut self, ins: &Instruction) {
         let constant = |idx: u32| self.word("consts", &[u64::from(idx)]);
         let (dst, value) = match *ins {
-            Instruction::Nop => return,
+            Instruction::Nop | Instruction::Label { .. } => return,
+            Instruction::Branch { .. } | Instruction::BranchIf { .. } => return,
             Instruction::End => return self.over = true,
             Instruction::Save { src, loc } => return self.set_cell(loc, self.reg(src)),
             Instruction::Uni { op, dst, s1 } => (dst, self.op(op, &[s1])),
@@ -119,7 +176,7 @@ impl Machine {
             Instruction::LoadConstMath { op, dst, s1, idx } => {
                 (dst, self.word(op, &[self.reg(s1), constant(idx)]))
             }
-            _ => panic!("{ins} is not of a straight list"),
+            _ => panic!("{ins} is not of a list that the machine runs"),
         };
         self.regs.insert(dst, value);
     }

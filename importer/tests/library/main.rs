@@ -1,6 +1,7 @@
 //! The library over the C entries: text, files, reduced lists with the reasons of what was dropped,
 //! and surveys.
 
+mod branches;
 mod file;
 mod machine;
 mod outcomes;

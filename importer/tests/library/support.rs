@@ -5,6 +5,7 @@ use harness::lists::{all_live_list, any_list, list, two_part_list, List, Profile
 use harness::random::Random;
 use harness::run;
 use rudzaviks::record::Records;
+use rudzaviks::text::{self, Parsed};
 use rudzaviks::{Instruction, Settings};
 
 pub fn settings(list: &List) -> Settings {
@@ -18,6 +19,15 @@ pub fn records(list: &List) -> Records {
 
 pub fn instructions(list: &List) -> Vec<Instruction> {
     records(list).instructions().expect("a list that passes has a meaning")
+}
+
+/// The list that a text says.
+pub fn list_of(text: &str) -> List {
+    let Parsed { list, settings, .. } = text::parse(text).expect("a list");
+    let Settings { count_regs, args, complex, arm, compress } = settings;
+    let settings = harness::settings::Settings { count_regs, args, complex, arm, compress };
+    let Records { list: words, table } = Records::new(&list);
+    List { settings, table, words }
 }
 
 /// What the unchanged original leaves of a list.

@@ -5,8 +5,8 @@ use std::collections::BTreeSet;
 use crate::support::{each_list, each_two_part_list, instructions, records, settings};
 use harness::damage::damaged;
 use harness::how_many;
-use harness::lists::{any_list, list, List, Profile};
-use harness::questions::refusal;
+use harness::lists::{any_list, drawn, List, Profile};
+use harness::questions::refusal_beside;
 use harness::random::Random;
 use rudzaviks::mir::{reg, set_label};
 use rudzaviks::record::Records;
@@ -109,12 +109,12 @@ impl Met {
     }
 }
 
-/// Many labels and jumps, with few numbers or with many.
+/// Many labels and jumps, with few numbers or with many; some of the jumps have no label.
 fn list_with_labels(random: &mut Random) -> List {
     let mut profile = Profile::random(random, 100);
     profile.labels = random.pick(&[2, 5, 20, 60]);
     [15, 16, 17].iter().for_each(|kind| profile.weights[*kind] += random.pick(&[1, 5, 20]));
-    list(random, &profile)
+    drawn(random, &profile)
 }
 
 #[test]
@@ -143,7 +143,7 @@ fn lists_for_fewer_registers_are_refused() {
         let mut less = list_with_labels(&mut random);
         less.settings.count_regs = random.below(less.settings.count_regs + 1);
         // A list that passes with more registers is refused by question 7 alone.
-        let expected = refusal(&less.settings, &less.words, &less.table, true);
+        let expected = refusal_beside(less.settings.count_regs, &less.words, &less.table, true);
         let answer = survey(&records(&less), &settings(&less)).err();
         assert_eq!(answer.map(|no| (no.number, no.index as usize)), expected);
         refused += u32::from(expected.is_some());

@@ -1,7 +1,7 @@
 //! The two-part kinds on the plain machine, and lists of them that the original leaves otherwise.
 
 use crate::machine::{run, Machine};
-use crate::support::{instructions, left_by_original, settings};
+use crate::support::{instructions, left_by_original, list_of, settings};
 use harness::kinds::{load, load_complex, save, save_complex, RET, STACK, TEMP};
 use harness::lists::List;
 use harness::questions::refusal;
@@ -9,8 +9,7 @@ use harness::record::Record;
 use harness::settings::Settings;
 use harness::short::{Alphabet, Cells};
 use rudzaviks::mir::reg;
-use rudzaviks::record::Records;
-use rudzaviks::{reduce, text, Instruction, Loc, Reg};
+use rudzaviks::{reduce, Instruction, Loc, Reg};
 
 const PRODUCT: &str = "(%$ + %t*im) := (%1 + %2*im) Times (%3 + %4*im)";
 
@@ -124,12 +123,7 @@ fn the_original_ends_otherwise_and_the_port_does_not() {
 /// that is left.
 #[test]
 fn the_sample_is_ended_otherwise_by_the_original() {
-    let text = include_str!("../../samples/two_part.txt");
-    let parsed = text::parse(text).expect("a list");
-    let Records { list: words, table } = Records::new(&parsed.list);
-    let rudzaviks::Settings { count_regs, args, complex, arm, compress } = parsed.settings;
-    let settings = Settings { count_regs, args, complex, arm, compress };
-    let list = List { settings, table, words };
+    let list = list_of(include_str!("../../samples/two_part.txt"));
     let is_load = |ins: &&Instruction| matches!(ins, Instruction::LoadComplex { .. });
     let (original, port) = (left_by_original(&list), left_by_port(&list));
     let loads = [&original, &port].map(|left| left.iter().filter(is_load).count());

@@ -1,6 +1,6 @@
 -- `mir::is_label` meets its contract: the kind is asked before the number.
 use borrow.Author.Tests.{eq-eqb, ne-eqb}
-use Rattle.mir.specs.Beside.{isLabel}
+use Rattle.mir.specs.Branches.{isLabel}
 use borrow.Author.Needs.{needs}
 use Rattle.mir.proofs.is_label.Statement.{statement}
 use Rattle.mir.proofs.is_label.Tie as tie

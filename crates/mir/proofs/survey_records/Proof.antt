@@ -9,7 +9,9 @@ use borrow.Author.Needs.{needs}
 use denote.Ref.{now}
 use mir.Syntax.{w32}
 use mir.Val.{Fits}
-use Rattle.mir.specs.Beside.{maskTo, labelAt, lastBelow, placeIn, parts, usedMask}
+use Rattle.mir.specs.Beside.{maskTo, placeIn, parts, usedMask}
+use Rattle.mir.specs.Branches.{labelAt}
+use Rattle.mir.specs.Folds.{lastBelow}
 use Rattle.mir.specs.Questions.{shapeBy, shapeRefusal}
 use Rattle.mir.specs.Records.{maxRegs, records}
 use Rattle.mir.proofs.Folds.{Unrefused, unrefused-none, unrefused-more, unrefused-stops, unrefused-ends}

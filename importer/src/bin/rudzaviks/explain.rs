@@ -19,10 +19,12 @@ pub fn refused(input: &Input, refusal: Refusal) -> Failure {
         (Err(bad), _) => (None, bad.to_string()),
         (Ok(ins), 7) => out_of_range(input, ins),
         (Ok(ins), 9) => without_value(input, ins, index),
+        (Ok(ins), 15) => past_branch(input, ins, index),
+        (Ok(ins), 16) => without_label(input, ins),
         _ => (None, "a complex value needs this cell and the next".to_string()),
     };
     let line = input.line(index);
-    let column = at_fault.and_then(|at_fault| column(&line, at_fault));
+    let column = at_fault.and_then(|at_fault| column(&line, &at_fault));
     let shown = excerpt(input.number(index), &line, column);
     Failure::refused(format!("{}: {refusal}\n{shown}\n{detail}", input.place(index)))
 }
@@ -51,20 +53,29 @@ fn whole_list(input: &Input, number: u32) -> String {
     }
 }
 
-/// A register that is at fault, and whether it is read.
-type AtFault = (Reg, bool);
+/// What is at fault in a line, and what stands before it, if the line has that.
+type AtFault = (String, &'static str);
 
-/// The registers of an instruction, those that it writes first.
-fn registers(ins: &Instruction) -> impl Iterator<Item = AtFault> {
-    let written = ins.destinations().into_iter().map(|reg| (reg, false));
-    written.chain(ins.sources().into_iter().map(|reg| (reg, true)))
+fn written(reg: Reg) -> AtFault {
+    (reg.to_string(), "")
+}
+
+fn read(reg: Reg) -> AtFault {
+    (reg.to_string(), ":=")
+}
+
+fn is_general(reg: &Reg) -> bool {
+    matches!(reg, Reg::Gen(_))
 }
 
 /// Question 7.
 fn out_of_range(input: &Input, ins: &Instruction) -> (Option<AtFault>, String) {
     let count = input.settings.count_regs;
-    let at_fault = registers(ins)
-        .find(|(reg, _)| matches!(reg, Reg::Gen(number) if u32::from(*number) >= count));
+    let too_high = |reg: &Reg| matches!(reg, Reg::Gen(number) if u32::from(*number) >= count);
+    let at_fault = match ins.destinations().into_iter().find(too_high) {
+        Some(reg) => Some(written(reg)),
+        None => ins.sources().into_iter().find(too_high).map(read),
+    };
     let detail = match count {
         0 => "count_regs is 0: there are no general registers".to_string(),
         _ => format!("count_regs is {count}: the general registers are %0 to %{}", count - 1),
@@ -77,16 +88,48 @@ fn without_value(input: &Input, ins: &Instruction, index: usize) -> (Option<AtFa
     let forgetting = last(input, index, Instruction::forgets);
     // No record at all comes before the first.
     let has_value = |reg: &Reg| last_write(input, *reg, index) > forgetting;
-    let mut general = ins.sources().into_iter().filter(|reg| matches!(reg, Reg::Gen(_)));
+    let mut general = ins.sources().into_iter().filter(is_general);
     let reg = general.find(|reg| !has_value(reg)).expect("a register that question 9 is about");
-    let place = |at: usize| format!("{} {}", input.unit(), input.number(at));
-    let detail = match (last_write(input, reg, index).map(place), forgetting.map(place)) {
+    let at = |at: usize| place(input, at);
+    let detail = match (last_write(input, reg, index).map(at), forgetting.map(at)) {
         (Some(written), Some(forgetting)) => format!(
             "{reg} was written at {written}, but a label or call, at {forgetting}, forgets it"
         ),
         _ => format!("nothing before it writes {reg}"),
     };
-    (Some((reg, true)), detail)
+    (Some(read(reg)), detail)
+}
+
+/// Question 15.
+fn past_branch(input: &Input, ins: &Instruction, index: usize) -> (Option<AtFault>, String) {
+    let branch = last(input, index, |ins| matches!(ins, Instruction::BranchIf { .. }));
+    let is_stale = |reg: &Reg| is_general(reg) && last_write(input, *reg, index) < branch;
+    let reg = ins.sources().into_iter().find(is_stale);
+    let reg = reg.expect("a register that question 15 is about");
+    let [write, branch] = [last_write(input, reg, index), branch]
+        .map(|at| place(input, at.expect("question 9 asks for a write, and 15 for a branch")));
+    let detail = format!(
+        "{reg} was written at {write}, but not since the branch at {branch}, past which no general \
+         register is kept"
+    );
+    (Some(read(reg)), detail)
+}
+
+/// Question 16.
+fn without_label(input: &Input, ins: &Instruction) -> (Option<AtFault>, String) {
+    let (Instruction::Branch { label } | Instruction::BranchIf { label, .. }) = *ins else {
+        unreachable!("question 16 is about branches")
+    };
+    let is_label = |ins: &Instruction| matches!(ins, Instruction::Label { .. });
+    let detail = match last(input, input.records.len(), is_label) {
+        None => "the list has no labels".to_string(),
+        Some(_) => format!("the list has no label {label}; `survey` shows those that it has"),
+    };
+    (Some((label.to_string(), "goto")), detail)
+}
+
+fn place(input: &Input, index: usize) -> String {
+    format!("{} {}", input.unit(), input.number(index))
 }
 
 /// The last record before the index that writes the register.
@@ -99,12 +142,11 @@ fn last(input: &Input, index: usize, wanted: impl Fn(&Instruction) -> bool) -> O
     (0..index).rev().find(|at| input.records.instruction(*at).is_ok_and(|ins| wanted(&ins)))
 }
 
-/// The column of a register in a line: one that is read stands after `:=`, if the line has it.
-fn column(line: &str, (reg, is_read): AtFault) -> Option<usize> {
-    let start = if is_read { line.find(":=").unwrap_or(0) } else { 0 };
-    let name = reg.to_string();
+/// The column of what is at fault in a line: after what stands before it, if the line has that.
+fn column(line: &str, (name, before): &AtFault) -> Option<usize> {
+    let start = line.find(before).map_or(0, |at| at + before.len());
     let ends = |at: usize| !line[at + name.len()..].starts_with(|c: char| c.is_ascii_digit());
-    let at = line[start..].match_indices(&name).map(|(at, _)| start + at).find(|at| ends(*at))?;
+    let at = line[start..].match_indices(name).map(|(at, _)| start + at).find(|at| ends(*at))?;
     Some(line[..at].chars().count() + 1)
 }
 
@@ -115,10 +157,17 @@ mod tests {
     #[test]
     fn a_register_is_found_in_its_line() {
         let line = "  %1 := %12 Plus %1  # %1";
-        assert_eq!(column(line, (Reg::Gen(1), false)), Some(3));
-        assert_eq!(column(line, (Reg::Gen(1), true)), Some(18));
-        assert_eq!(column(line, (Reg::Gen(12), true)), Some(9));
-        assert_eq!(column(line, (Reg::Gen(2), true)), None);
-        assert_eq!(column("if not %3 goto 7", (Reg::Gen(3), true)), Some(8));
+        assert_eq!(column(line, &written(Reg::Gen(1))), Some(3));
+        assert_eq!(column(line, &read(Reg::Gen(1))), Some(18));
+        assert_eq!(column(line, &read(Reg::Gen(12))), Some(9));
+        assert_eq!(column(line, &read(Reg::Gen(2))), None);
+        assert_eq!(column("if not %3 goto 7", &read(Reg::Gen(3))), Some(8));
+    }
+
+    #[test]
+    fn a_label_is_found_in_its_line() {
+        let label = |number: u32| (number.to_string(), "goto");
+        assert_eq!(column("if %7 goto 7", &label(7)), Some(12));
+        assert_eq!(column("  goto 77 # 7", &label(77)), Some(8));
     }
 }

@@ -37,8 +37,9 @@ registers changed and < where it was dropped; then the reason follows in the pla
 const CHECK: &str = "\
 usage: rudzaviks check FILE
 
-Puts the nine questions that a list must pass before it may be reduced. If the answer to one is no,
-says which question it is, shows the line at fault, and explains.
+Puts the eleven questions that a list must pass before it may be reduced: those of the numbers 1 to
+9, 15 and 16. If the answer to one is no, says which question it is, shows the line at fault, and
+explains.
 ";
 
 const SURVEY: &str = "\
@@ -55,7 +56,7 @@ number, and how many lines have it if several do; or that it is absent, and the 
 jumps to it. The number of a call is no label. Each number takes a walk over the list: thousands of
 them in a long list take seconds.
 
-Of the nine questions only 1, 3 and 5 to 7 are put: a list that may not be reduced may be surveyed
+Of the eleven questions only 1, 3 and 5 to 7 are put: a list that may not be reduced may be surveyed
 all the same. A refusal is explained as `check` does it.
 ";
 

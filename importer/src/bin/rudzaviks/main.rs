@@ -55,7 +55,7 @@ fn execute(arguments: &Arguments, input: &Input) -> Result<(), Failure> {
         }
         Command::Check => {
             reduced(input)?;
-            output::print(&format!("{}: passes all nine questions\n", input.name))
+            output::print(&format!("{}: passes all eleven questions\n", input.name))
         }
         Command::Survey => {
             let survey = rudzaviks::survey(&input.records, &input.settings);

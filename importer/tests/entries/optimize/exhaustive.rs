@@ -1,18 +1,26 @@
 //! Every short list over two registers and two or three cells.
 
 use super::support::compared_with_room;
-use harness::kinds::load_const;
+use harness::kinds::{label, load_const};
 use harness::random::Random;
 use harness::record::Record;
 use harness::roles::KINDS;
 use harness::short::{Alphabet, Cells};
 use harness::tally::{By, Tally};
+use rudzaviks::ffi::{Answer, Refusal};
 
-/// Every list of so many of the records, after the given first ones.
+/// Every list of so many of the records, after the given first ones. One that branches to no Label
+/// comes again with the Label behind it.
 fn agree_on_every_list(tally: &mut Tally, first: &[Record], alphabet: &Alphabet, len: u32) {
     let mut random = Random::new(u64::from(len));
-    let lists = alphabet.lists(first, len);
-    lists.for_each(|list| tally.add(compared_with_room(&mut random, &list).1));
+    for mut list in alphabet.lists(first, len) {
+        let (answer, by) = compared_with_room(&mut random, &list);
+        tally.add(by);
+        if matches!(answer, Answer::Refused(Refusal { number: 16, .. })) {
+            list.words.extend(label(0));
+            tally.add(compared_with_room(&mut random, &list).1);
+        }
+    }
 }
 
 /// Alone, where a Gen that is read first is refused, and after both registers are written.

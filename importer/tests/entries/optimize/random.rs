@@ -6,6 +6,7 @@ use crate::support::shown;
 use harness::damage::damaged;
 use harness::limits::MOST_REGS;
 use harness::lists::{all_live_list, any_list, list, two_part_list, wide_list, List, Profile};
+use harness::questions::LAST;
 use harness::random::Random;
 use harness::settings::Settings;
 use harness::tally::Tally;
@@ -114,7 +115,7 @@ fn longer_two_part_lists() {
 fn damaged_copies() {
     let mut random = Random::new(503);
     let lists = how_many(200_000);
-    let mut times = [0u64; 10];
+    let mut times = [0u64; LAST + 1];
     for _ in 0..lists {
         let list = any_list(&mut random, 80);
         let list = damaged(&mut random, &list);

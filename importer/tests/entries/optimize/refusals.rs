@@ -2,7 +2,7 @@
 
 use super::support::{agree, agree_with_room};
 use crate::faulty::*;
-use harness::damage::{Fault, OF_LIST, OF_RECORD};
+use harness::damage::{Fault, IN_TURN, OF_LIST, OF_RECORD};
 use harness::lent::{filled, room};
 use harness::limits::{self, MOST_RECORDS};
 use harness::lists::{list, List, Profile};
@@ -23,12 +23,12 @@ fn refuses(seed: u64) -> impl FnMut(&List, u32, usize) {
 
 #[test]
 fn each_number_at_first_middle_and_last_record() {
-    each_fault_at_places(&mut Random::new(601), &OF_RECORD, refuses(611));
+    each_fault_at_places(&mut Random::new(601), &of_any_record(), refuses(611));
 }
 
 #[test]
 fn each_number_in_the_longest_list() {
-    each_fault_in_the_longest(&mut Random::new(602), MOST_RECORDS, &OF_RECORD, refuses(612));
+    each_fault_in_the_longest(&mut Random::new(602), MOST_RECORDS, &of_any_record(), refuses(612));
 }
 
 #[test]
@@ -40,12 +40,18 @@ fn each_fault_of_the_whole_list() {
 
 #[test]
 fn the_first_bad_record_decides() {
-    faults_in_two_records(&mut Random::new(604), &OF_RECORD, refuses(614));
+    faults_in_two_records(&mut Random::new(604), &IN_TURN, refuses(614));
 }
 
 #[test]
 fn the_lower_question_decides() {
     faults_in_one_record(&mut Random::new(605), &OF_RECORD, refuses(615));
+    faults_with_a_stale_source(&mut Random::new(610), &OF_RECORD, refuses(616));
+}
+
+#[test]
+fn question_16_comes_last() {
+    faults_with_no_label(&mut Random::new(617), refuses(618));
 }
 
 /// Lengths with room, but for one slice that is a word too short or has none; where it is asked
@@ -99,7 +105,7 @@ fn slices_too_short_for_the_longest_lists() {
 
 #[test]
 fn too_short_among_the_faults() {
-    let faults = OF_LIST.into_iter().chain(OF_RECORD);
+    let faults = OF_LIST.into_iter().chain(of_any_record());
     too_short_among(&mut Random::new(608), faults, refuses_too_short);
 }
 

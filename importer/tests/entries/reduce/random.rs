@@ -2,10 +2,11 @@
 
 use super::support::{agree, agree_with_room, passes};
 use crate::arbitrary::{any_word, arbitrary_list};
-use harness::damage::damaged;
+use harness::damage::{damaged, damaged_branches};
 use harness::file::{encode, room, with_word, MOST};
 use harness::how_many;
-use harness::lists::{any_list, list, two_part_list, List, Profile};
+use harness::lists::{any_branch_list, any_list, list, two_part_list, List, Profile};
+use harness::questions::LAST;
 use harness::random::Random;
 use harness::record::WORDS;
 use harness::roles::KINDS;
@@ -58,6 +59,23 @@ fn two_part_lists() {
     tally.print("reduce, two-part lists");
 }
 
+#[test]
+fn lists_with_branches() {
+    let mut random = Random::new(812);
+    let lists = how_many(100_000);
+    let (mut tally, mut times) = (Tally::default(), [0u64; LAST + 1]);
+    for _ in 0..lists {
+        let list = any_branch_list(&mut random, 40);
+        tally.add(passes(&mut random, &list).1);
+        let copy = damaged_branches(&mut random, &list);
+        count(&mut times, agree_with_room(&mut random, &copy));
+    }
+    tally.print("reduce, lists with branches");
+    for number in [0, 5, 6, 7, 8, 9, 15, 16] {
+        assert!(times[number] > lists / 500, "{times:?}");
+    }
+}
+
 /// A list of any profile with so many records and pairs.
 fn sized(random: &mut Random, records: usize, pairs: usize) -> List {
     let profile = Profile::random(random, 0);
@@ -87,7 +105,7 @@ fn as_many_records_and_pairs_as_may_be() {
 }
 
 /// Counts the question that an answered word names, 0 for none.
-fn count(times: &mut [u64; 10], word: u64) {
+fn count(times: &mut [u64; LAST + 1], word: u64) {
     times[(word >> 32) as usize] += 1;
 }
 
@@ -95,7 +113,7 @@ fn count(times: &mut [u64; 10], word: u64) {
 fn damaged_copies() {
     let mut random = Random::new(805);
     let lists = how_many(200_000);
-    let mut times = [0u64; 10];
+    let mut times = [0u64; LAST + 1];
     for _ in 0..lists {
         let list = any_list(&mut random, 80);
         let copy = damaged(&mut random, &list);
@@ -111,7 +129,7 @@ fn damaged_copies() {
 fn damaged_files(seed: u64, damage: impl Fn(&mut Random, &mut Vec<u8>)) {
     let mut random = Random::new(seed);
     let lists = how_many(200_000);
-    let mut times = [0u64; 10];
+    let mut times = [0u64; LAST + 1];
     for _ in 0..lists {
         let list = any_list(&mut random, 16);
         let mut file = encode(&list, set_flag(&mut random));

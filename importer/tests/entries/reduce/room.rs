@@ -1,8 +1,8 @@
 //! Outputs that are just long enough, or too short.
 
 use super::support::{agree, refuses};
-use crate::faulty::{each_decides, too_short_among};
-use harness::damage::{Fault, OF_RECORD};
+use crate::faulty::{each_decides, of_any_record, too_short_among};
+use harness::damage::Fault;
 use harness::file::{encode, room, MOST};
 use harness::lists::{list, List, Profile};
 use harness::random::Random;
@@ -67,7 +67,7 @@ fn refuses_too_short(random: &mut Random, list: &List, number: u32) {
 #[test]
 fn too_short_among_the_faults() {
     let whole = [Fault::CountRegs, Fault::Args, Fault::PartialRecord, Fault::OddTable];
-    let faults = whole.into_iter().chain(OF_RECORD);
+    let faults = whole.into_iter().chain(of_any_record());
     too_short_among(&mut Random::new(1104), faults, refuses_too_short);
 }
 

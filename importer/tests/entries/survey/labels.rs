@@ -5,7 +5,7 @@ use harness::damage::damaged;
 use harness::how_many;
 use harness::kinds::label;
 use harness::limits::MOST_RECORDS;
-use harness::lists::{labelled_list, List};
+use harness::lists::{drawn_labelled, List};
 use harness::random::Random;
 use harness::record::WORDS;
 use harness::settings::Settings;
@@ -40,7 +40,7 @@ fn the_last_of_many_labels() {
     let lists = how_many(500_000);
     let (mut absent, mut once, mut repeated, mut named) = (0, 0, 0, 0);
     for _ in 0..lists {
-        let list = labelled_list(&mut random, 24);
+        let list = drawn_labelled(&mut random, 24);
         agree(&list, &ASKED);
         for label in ASKED {
             let places = places(&list, label);

@@ -1,10 +1,10 @@
 //! Random lists, surveyed through the C entry, beside what is expected: the mask by the original,
-//! and with more than 32 registers by the plain statement.
+//! and with more than 32 registers by the plain statement. Questions 15 and 16 would refuse some.
 
 use super::support::{agree, labels, question};
 use harness::damage::damaged;
 use harness::limits::MOST_REGS;
-use harness::lists::{any_list, list, Profile, USED_REGS};
+use harness::lists::{any_drawn, drawn, Profile, USED_REGS};
 use harness::random::Random;
 use harness::settings::Settings;
 use harness::{answers, how_many, limits};
@@ -15,7 +15,7 @@ fn passing(seed: u64, lists: u64) {
     let (mut present, mut repeated, mut absent, mut compressed) = (0, 0, 0, 0);
     let [mut narrow, mut wide] = [0; 2];
     for _ in 0..lists {
-        let list = any_list(&mut random, 80);
+        let list = any_drawn(&mut random, 80);
         agree(&list, &labels(&list));
         let all = list.labels();
         present += u64::from(!all.is_empty());
@@ -44,7 +44,7 @@ fn damaged_copies() {
     let lists = how_many(500_000);
     let mut times = [0u64; 10];
     for _ in 0..lists {
-        let list = any_list(&mut random, 80);
+        let list = any_drawn(&mut random, 80);
         let list = damaged(&mut random, &list);
         agree(&list, &labels(&list));
         times[question(&list)] += 1;
@@ -58,7 +58,7 @@ fn damaged_copies() {
 fn longer_lists() {
     let mut random = Random::new(104);
     for _ in 0..how_many(500_000) / 2_500 {
-        let list = any_list(&mut random, 5_000);
+        let list = any_drawn(&mut random, 5_000);
         agree(&list, &labels(&list));
         let list = damaged(&mut random, &list);
         agree(&list, &labels(&list));
@@ -79,7 +79,7 @@ fn decoded_answers() {
     for _ in 0..2_000 {
         let count_regs = random.between(0, 66);
         let settings = Settings { count_regs, compress: random.percent(20), ..Settings::default() };
-        let list = list(&mut random, &Profile { settings, ..Profile::plain(12) });
+        let list = drawn(&mut random, &Profile { settings, ..Profile::plain(12) });
         let surveyed = survey(&list.words, &list.table, count_regs, settings.compress, 1);
         if count_regs > MOST_REGS {
             assert_eq!(surveyed, Err(Refusal { number: 1, index: 0 }));

@@ -5,7 +5,8 @@ use crate::faulty::*;
 use crate::support::shown;
 use harness::damage::{Fault, OF_LIST, OF_RECORD};
 use harness::limits::MOST_RECORDS;
-use harness::lists::List;
+use harness::lists::{any_branch_list, List};
+use harness::questions::LAST;
 use harness::random::Random;
 use harness::settings::Settings;
 use rudzaviks::ffi::{survey, Place, Refusal};
@@ -78,16 +79,19 @@ fn the_lower_question_decides() {
     faults_in_one_record(&mut Random::new(206), &asked_faults(), refuses);
 }
 
-/// Questions 2, 8 and 9 are not put here: such a list has an answer.
+/// Questions 2, 8, 9, 15 and 16 are not put here: such a list has an answer.
 #[test]
 fn other_questions_are_not_put() {
     let mut random = Random::new(207);
-    let mut times = [0u32; 10];
-    for _ in 0..20_000 {
-        let mut list = some_list(&mut random, 6);
-        let fault = random.pick(&[Fault::Args, Fault::NoPartner, Fault::NoStatic]);
-        let at = random.index(6);
-        if fault.put(&mut random, &mut list, at) {
+    let mut times = [0u32; LAST + 1];
+    let others = [Fault::Args, Fault::NoPartner, Fault::NoStatic, Fault::Stale, Fault::NoLabel];
+    for turn in 0..20_000 {
+        let mut list = match turn % 2 {
+            0 => some_list(&mut random, 6),
+            _ => any_branch_list(&mut random, 20),
+        };
+        let fault = random.pick(&others);
+        if put_somewhere(&mut random, fault, &mut list).is_some() {
             times[fault.number() as usize] += 1;
             let count_regs = list.settings.count_regs;
             let surveyed = survey(&list.words, &list.table, count_regs, false, 1);
@@ -95,5 +99,5 @@ fn other_questions_are_not_put() {
             agree(&list, &[0, 1]);
         }
     }
-    assert!([2, 8, 9].iter().all(|number| times[*number] > 200), "{times:?}");
+    assert!([2, 8, 9, 15, 16].iter().all(|number| times[*number] > 200), "{times:?}");
 }

@@ -1,8 +1,13 @@
--- `mir::questions::check` meets its contract: questions 1 to 4 come first, at index 0.
+-- `mir::questions::check` meets its contract: questions 1 to 4 come first, at index 0, and question 16 comes last.
+use mathlib.Core.Path.{_≡_, refl}
+use native.Mathlib.Omega.{arith}
+use denote.Ref.{now}
 use borrow.Author.Needs.{needs}
 use borrow.Author.Tests.{le-leb, lt-leb, not-true, not-false}
-use Rattle.mir.specs.Questions.{fewRegisters, fewArgs, refusal}
+use Rattle.mir.specs.Folds.{orElse}
+use Rattle.mir.specs.Questions.{fewRegisters, fewArgs, recordRefusal, branchRefusal, refusal}
 use Rattle.mir.proofs.Folds.{answered-no, answered-yes}
+use Rattle.mir.proofs.Passing.{well-sized}
 use Rattle.mir.proofs.questions.check.Statement.{statement}
 use Rattle.mir.proofs.questions.check.Tie as tie
 
@@ -47,18 +52,38 @@ check-records-requires c κs =
     let w = c .before .before in
     (first w .if1 .left, answered-yes (w .well-sized .ensures) (c .before .if3 .left))
 
-returns-5 : tie.Need-returns-5
+-- questions 1 to 4 are answered with yes: what is left is the records' and the branches' answer
+first-four : (e : tie.After-check-records) →
+    let a = start (e .before .before .before) .args in
+    refusal (a .room) (a .settings) (now (a .list)) (now (a .table))
+    ≡ orElse (recordRefusal (now (a .table)) (a .settings .«count_regs») (now (a .list))) (branchRefusal (now (a .list)))
 unfolding fewRegisters fewArgs refusal
-returns-5 c =
-    let e = c .before in
-    let w = e .before .before in
+first-four e =
+    let w = e .before .before .before in
     simp (
       le-leb _ _ (first w .if1 .left),
       le-leb _ _ (w .before .if2 .left),
-      answered-yes (w .well-sized .ensures) (e .before .if3 .left),
-      not-false (start w .args .room) (e .if4 .left),
+      answered-yes (w .well-sized .ensures) (e .before .before .if3 .left),
+      not-false (start w .args .room) (e .before .if4 .left),
     )
-    (c .check-records .ensures)
+
+check-branches-requires : tie.Need-check-branches-requires
+check-branches-requires c κs =
+    let e = c .before .before .before in
+    let w = e .before .before in
+    omega (arith, well-sized _ _ (answered-yes (w .well-sized .ensures) (e .before .if3 .left)))
+
+returns-5 : tie.Need-returns-5
+returns-5 c =
+    let t = c .before in
+    let r = t .before .before in
+    rw (first-four r, ← (r .check-records .ensures), t .enum-told .given .1) (c .check-branches .ensures)
+
+returns-6 : tie.Need-returns-6
+returns-6 c =
+    let t = c .before in
+    let r = t .before .before in
+    rw (first-four r, ← (r .check-records .ensures), t .number .given .1) refl
 
 pub check-spec : {M : Type 1} → statement M
 check-spec =
@@ -71,4 +96,8 @@ check-spec =
     returns-3
     returns-4
     check-records-requires
-    returns-5)
+    (λ c. search needs)
+    check-branches-requires
+    (λ c. search needs)
+    returns-5
+    returns-6)

@@ -18,12 +18,12 @@ passes : (e : tie.Else1) →
 passes e = shape-passes _ _ _ (sym (e .before .check-shape .ensures) ∙ e .if1 .left)
 
 returns : tie.Need-returns
-returns c = shape-stops _ _ _ _ _ (c .before .check-shape .ensures) (c .if1 .taken)
+returns c = shape-stops _ _ _ _ _ _ (c .before .check-shape .ensures) (c .if1 .taken)
 
 returns-2 : tie.Need-returns-2
 returns-2 c =
     let f = c .before in
-    rw (then-last _ _ _ _ (passes (f .before)), answered-no (f .partner-fits .ensures) (c .if2 .taken))
+    rw (then-last _ _ _ _ _ (passes (f .before)), answered-no (f .partner-fits .ensures) (c .if2 .taken))
 
 check-sources-requires : tie.Need-check-sources-requires
 check-sources-requires c κs =
@@ -33,7 +33,7 @@ check-sources-requires c κs =
 returns-3 : tie.Need-returns-3
 returns-3 c =
     let f = c .before .before in
-    rw (then-last _ _ _ _ (passes (f .before)), answered-yes (f .partner-fits .ensures) (c .before .if2 .left))
+    rw (then-last _ _ _ _ _ (passes (f .before)), answered-yes (f .partner-fits .ensures) (c .before .if2 .left))
     (c .check-sources .ensures)
 
 pub check-record-spec : {M : Type 1} → statement M

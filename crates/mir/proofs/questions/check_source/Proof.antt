@@ -1,8 +1,8 @@
--- `mir::questions::check_source` meets its contract: the register's current static says which case of `named` holds.
+-- `mir::questions::check_source` meets its contract: the register's current static says which case of `named`, and of `since`, holds.
 use mathlib.Core.Path.{_≡_, _∙_}
 use lib.ListN.{getD}
 use borrow.Author.Needs.{needs}
-use borrow.Author.Tests.{lt-ltb, le-ltb}
+use borrow.Author.Tests.{lt-ltb, le-ltb, lt-leb, le-leb}
 use Rattle.mir.specs.declared.rename.Current.the-variants.{Unset}
 use Rattle.mir.specs.Inner.{currentsIn}
 use Rattle.mir.proofs.Currents.{current-read}
@@ -24,12 +24,19 @@ read k =
 returns-2 : tie.Need-returns-2
 returns-2 c =
     let k = c .before .before in
-    simp (lt-ltb _ _ (k .before .if1 .left), read k ∙ c .enum-told2 .given .1)
+    simp (lt-ltb _ _ (k .before .if1 .left), read k ∙ c .enum-told .given .1)
 
 returns-3 : tie.Need-returns-3
 returns-3 c =
-    let k = c .before .before in
-    simp (lt-ltb _ _ (k .before .if1 .left), read k ∙ c .enum-told .given .1)
+    let t = c .before .before in
+    let k = t .before .before in
+    simp (lt-ltb _ _ (k .before .if1 .left), read k ∙ t .current .given .1, lt-leb _ _ (c .if2 .taken))
+
+returns-4 : tie.Need-returns-4
+returns-4 c =
+    let t = c .before .before in
+    let k = t .before .before in
+    simp (lt-ltb _ _ (k .before .if1 .left), read k ∙ t .current .given .1, le-leb _ _ (c .if2 .left))
 
 pub check-source-spec : {M : Type 1} → statement M
 check-source-spec =
@@ -40,4 +47,5 @@ check-source-spec =
     (λ c. c .before .pre (c .if1 .left))
     (λ c κs. search needs) (λ c. search needs) (λ c. search needs)
     returns-2
-    returns-3)
+    returns-3
+    returns-4)

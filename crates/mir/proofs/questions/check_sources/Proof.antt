@@ -2,7 +2,7 @@
 use native.Mathlib.Omega.{arith}
 use borrow.Author.Needs.{needs}
 use Rattle.mir.specs.Records.{maxRegs}
-use Rattle.mir.specs.Questions.{sourcesNamed}
+use Rattle.mir.specs.Questions.{sourcesNamed, sourcesSince}
 use Rattle.mir.specs.Shapes.{sources}
 use Rattle.mir.proofs.Renaming.{gens-fit-both}
 use Rattle.mir.proofs.Shapes.{room}
@@ -16,7 +16,7 @@ check-source-words-requires c κs =
     (omega (arith, room _ (f .shape-of .ensures)), rw (f .shape-of .ensures) (gens-fit-both maxRegs _ (f .before .pre) .1))
 
 returns : tie.Need-returns
-unfolding sourcesNamed sources
+unfolding sourcesNamed sourcesSince sources
 returns c = rw (← (c .before .before .shape-of .ensures)) (c .check-source-words .ensures)
 
 pub check-sources-spec : {M : Type 1} → statement M

@@ -1,0 +1,14 @@
+-- `mir::branches::slot` meets its contract: the definition's slot, below 4,096.
+-- A remainder by 4,096 is.
+use mathlib.Core.Path.{refl}
+use borrow.Author.Needs.{needs}
+use Rattle.mir.specs.Inner.{slotOf}
+use Rattle.mir.proofs.branches.slot.Statement.{statement}
+use Rattle.mir.proofs.branches.slot.Tie as tie
+
+returns : tie.Need-returns
+unfolding slotOf
+returns c = (refl, search needs)
+
+pub slot-spec : {M : Type 1} → statement M
+slot-spec = tie.close (tie.spec (λ c. search needs) returns)

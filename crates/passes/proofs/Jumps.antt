@@ -1,0 +1,254 @@
+-- One step of two runs that have met, the one of the list and the one of its reduced list: they have met after it, or both are over
+-- and ended equal. The reduced run makes the step too if the record is kept, and waits if it is dropped.
+-- A record of a straight kind has its law (`step`). To a Label control may come from anywhere, so there only what everybody looks at is
+-- the same; a branch leaves that as it is, and past a BranchIf nothing that was written before it is still to be read.
+use Prim.Native.Nat.{ℕ, zero, suc, _≤_, _<_}
+use mathlib.Core.Bool.{Bool, true, false, cond, _||_, or-false}
+use mathlib.Core.List.{List, [], _∷_}
+use mathlib.Core.Logic.{_⊎_, inl, inr, ⊎-elim}
+use mathlib.Core.Path.{_≡_, refl, sym, ap, subst, _∙_}
+use native.Mathlib.Omega.{arith}
+use lib.Dec.{eqb}
+use lib.ListN.{getD}
+use borrow.Author.Tests.{eqb-true}
+use Rattle.mir.specs.declared.config.Settings.{Settings}
+use Rattle.mir.specs.declared.rename.Current.the-variants.{Static}
+use Rattle.mir.specs.declared.shape.Action.the-variants as action
+use Rattle.mir.specs.Branches.{isLabel, labelAt, isBranch, labelOf}
+use Rattle.mir.specs.Folds.{anyBelow, lastBelow}
+use Rattle.mir.specs.Questions.{hasLabel}
+use Rattle.mir.specs.Records.{records, recordAt, wordAt, fixedMark}
+use Rattle.mir.specs.Renaming.{produced, renamed, regsTo}
+use Rattle.mir.specs.Shapes.{label, branch, branchIf, row, shapeOf, dests, sources}
+use Rattle.mir.proofs.Clash.{clash}
+use Rattle.mir.proofs.Passing.{ListPasses}
+use Rattle.mir.proofs.Renaming.{and-both}
+use Rattle.passes.specs.Color.{Setup, setup, colorTo, colored, wordsFor, sourceWord}
+use Rattle.passes.specs.Contract.{isKept, outcomeOf, outcomeAt, outAt, reduced}
+use Rattle.passes.specs.Create.{endsOf}
+use Rattle.passes.specs.Machine.{Meaning, State, Point, effect, turn, jumps, target, step, isStraight, isCovered}
+use Rattle.passes.proofs.Assign.{staticIn, numberIn}
+use Rattle.passes.proofs.Create.{names-to, not-fresh}
+use Rattle.passes.proofs.Ends.{straight-goes-on, turn-runs}
+use Rattle.passes.proofs.Landing.{place, place-next, kept-record, target-same}
+use Rattle.passes.proofs.OneRecord.{Same, Running, running-same, Place, reset-after, source-same}
+use Rattle.passes.proofs.Past.{stale-end}
+use Rattle.passes.proofs.Reduced.{same-kind, same-word}
+use Rattle.passes.proofs.Runs.{record-length, eight}
+use Rattle.passes.proofs.Steps.{Stopped, Agree, or-cases, straight-step}
+
+abbrev point : {Value : Type 0} → ℕ → State Value → Point Value
+point i st = record { at = i; state = st }
+
+-- ---- where a branch goes
+
+-- p holds of some number, and so of the last one
+last-holds : (p : ℕ → Bool) (n e : ℕ) → anyBelow n p ≡ true → (getD (lastBelow p n) 0 e < n) × (p (getD (lastBelow p n) 0 e) ≡ true)
+unfolding anyBelow lastBelow
+last-holds p zero e h = clash (cc)
+last-holds p (suc n) e h = go (p n) refl h (last-holds p n e)
+  where
+    Held : ℕ → List ℕ → Type 0
+    Held n l = (getD l 0 e < n) × (p (getD l 0 e) ≡ true)
+
+    go : (b : Bool) → p n ≡ b → (anyBelow n p || b) ≡ true → (anyBelow n p ≡ true → Held n (lastBelow p n)) → Held (suc n) (cond b (n ∷ []) (lastBelow p n))
+    go true q k up = (omega arith, q)
+    go false q k up =
+        let r = up (sym (or-false (anyBelow n p)) ∙ k) in
+        (omega (arith, r .0), r .1)
+
+module _ (s : Settings) (list table : List ℕ) where
+  -- the list's run is at a Label
+  pub record Landed {Value : Type 0} (i : ℕ) (A B : State Value) : Type 0 where
+    pub a-runs : A .over ≡ false
+    pub b-runs : B .over ≡ false
+    pub same : Same s list table A B
+    pub spot : wordAt (recordAt list i) 0 ≡ label
+
+module _ (s : Settings) (list table : List ℕ) (passes : ListPasses s list table) {Value : Type 0} (m : Meaning Value) where
+  abbrev u : Setup
+  u = setup s list table
+
+  abbrev kept : ℕ → Bool
+  kept i = isKept (outcomeAt (fixedMark s) u i)
+
+  abbrev to : ℕ → ℕ
+  to = place s list table passes
+
+  -- the run of the list has come to p, and the run of the reduced list to q
+  pub record Met (p q : Point Value) : Type 0 where
+    pub spot : q .at ≡ to (p .at)
+    pub inside : p .at ≤ records list
+    pub agree : Running s list table (p .at) (p .state) (q .state) ⊎ Landed s list table (p .at) (p .state) (q .state)
+
+  abbrev pub Meets : Point Value → Point Value → Type 0
+  Meets p q = Met p q ⊎ Stopped s (p .state) (q .state)
+
+  -- at the Label that a branch goes to, which question 16 asks for
+  land : (name : ℕ) {A B : State Value} → hasLabel list name ≡ true → A .over ≡ false → B .over ≡ false → Same s list table A B
+      → Met (point (target list name) A) (point (target (reduced s list table) name) B)
+  unfolding target isLabel
+  land name has a b same =
+      let f = last-holds (labelAt list name) (records list) (records list) has in
+      record {
+        spot = target-same s list table passes name;
+        inside = omega (arith, f .0);
+        agree = inr (record { a-runs = a; b-runs = b; same = same; spot = is-label (target list name) (f .1) });
+      }
+    where
+      is-label : (j : ℕ) → labelAt list name j ≡ true → wordAt (recordAt list j) 0 ≡ label
+      is-label j h = eqb-true (wordAt (recordAt list j) 0) label (and-both (eqb (wordAt (recordAt list j) 0) label) (eqb (wordAt (recordAt list j) 1) name) h .0)
+
+  module _ (i : ℕ) (inside : i < records list) (A B : State Value) where
+    abbrev rec : List ℕ
+    rec = recordAt list i
+
+    abbrev out : List ℕ
+    out = outAt u i
+
+    abbrev kind : ℕ
+    kind = wordAt rec 0
+
+    abbrev here : Place
+    here = record { s = s; list = list; table = table; passes = passes; i = i; inside = inside }
+
+    -- the reduced run's next point
+    abbrev q-next : Point Value
+    q-next = cond (kept i) (step m (reduced s list table) (point (to i) B)) (point (to i) B)
+
+    abbrev Steps : Type 0
+    Steps = Meets (step m list (point i A)) q-next
+
+    -- neither run jumps: both are at the next record
+    next-met : {A′ B′ : State Value} (x : ℕ) → x ≡ to (suc i) → Agree s list table (suc i) A′ B′ → Meets (point (suc i) A′) (point x B′)
+    next-met x e h = ⊎-elim (λ g. inl (record { spot = e; inside = omega arith; agree = inl g })) (λ g. inr g) h
+
+    goes-on : jumps m rec A ≡ false → (kept i ≡ true → jumps m out B ≡ false) → Agree s list table (suc i) (effect m rec A) (cond (kept i) (effect m out B) B) → Steps
+    unfolding step
+    goes-on ja jb h = rw ja (go (kept i) refl h)
+      where
+        go : (b : Bool) → kept i ≡ b → Agree s list table (suc i) (effect m rec A) (cond b (effect m out B) B)
+            → Meets (point (suc i) (effect m rec A)) (cond b (step m (reduced s list table) (point (to i) B)) (point (to i) B))
+        go true k g =
+            rw (kept-record s list table passes i inside k, jb k)
+            (next-met (suc (to i)) (sym (place-next s list table passes i ∙ rw k (omega arith))) g)
+        go false k g = next-met (to i) (sym (place-next s list table passes i ∙ rw k (omega arith))) g
+
+    -- both jump
+    jump : (name : ℕ) → hasLabel list name ≡ true → kept i ≡ true → jumps m rec A ≡ true → jumps m out B ≡ true → labelOf rec ≡ name → labelOf out ≡ name
+        → effect m rec A ≡ A → effect m out B ≡ B → A .over ≡ false → B .over ≡ false → Same s list table A B → Steps
+    unfolding step
+    jump name has k ja jb na nb ea eb a b same =
+        rw (k, kept-record s list table passes i inside k, ja, jb, na, nb, ea, eb) (inl (land name has a b same))
+
+    -- ---- a record of a straight kind
+
+    straight : isStraight kind ≡ true → Running s list table i A B → Steps
+    straight h g =
+        goes-on (straight-goes-on m rec A h) (λ k. straight-goes-on m out B (rw (same-kind s list table passes i inside) h))
+        (rw (turn-runs m rec A (g .a-runs), turn-runs m out B (g .b-runs)) at turned)
+      where
+        turned : Agree s list table (suc i) (turn m rec A) (cond (kept i) (turn m out B) B)
+        turned =
+            let w = wordAt rec in
+            straight-step m here g (w 1) (w 2) (w 3) (w 4) (w 5) (w 6) (w 7) (w 0) h (eight rec (record-length list i inside))
+
+    -- ---- a Label, a Branch and a BranchIf are kept, and leave the state as it is
+
+    module _ (k : ℕ) (e : kind ≡ k) where
+      out-kind : wordAt out 0 ≡ k
+      out-kind = same-kind s list table passes i inside ∙ e
+
+    label-step : kind ≡ label → A .over ≡ false → B .over ≡ false → Same s list table A B → Steps
+    unfolding jumps effect outcomeAt outcomeOf shapeOf dests regsTo renamed
+    label-step e a b same =
+        let f = out-kind label e in
+        goes-on (rw e) (λ k. rw f)
+        (inl (rw (e, f) (reset-after here (rw e) (rw e) a b same (λ r t h. absurd (not-fresh r t (rw e at h))))))
+
+    branch-step : kind ≡ branch → Running s list table i A B → Steps
+    unfolding jumps isBranch labelOf effect outcomeAt outcomeOf shapeOf
+    branch-step e g =
+        let f = out-kind branch e in
+        jump (wordAt rec 1) (rw e at (passes .landing i inside)) (rw f) (rw e) (rw f) (rw e) (rw (f, same-word s list table passes i inside 1 (inr (rw e (omega arith))))) (rw e) (rw f) (g .a-runs) (g .b-runs)
+        (running-same s list table g)
+
+    module _ (g : Running s list table i A B) (w1 w2 w3 w4 w5 w6 w7 : ℕ) (is : rec ≡ row branchIf w1 w2 w3 w4 w5 w6 w7) where
+      abbrev src : ℕ
+      src = sourceWord (regsTo list i) (colorTo u i .colours) w1
+
+      if-out : out ≡ row branchIf src w2 w3 w4 w5 w6 w7
+      unfolding dests sources shapeOf outAt colored wordsFor
+      if-out = rw is
+
+      -- the condition has the same value in both runs
+      condition : A .reg w1 ≡ B .reg src
+      unfolding sources shapeOf
+      condition = source-same here g w1 (rw is (inl refl))
+
+      -- nothing that a register holds is still to be read
+      unread : (r t : ℕ) → staticIn (regsTo list (suc i)) r ≡ Static t → suc i ≤ numberIn (endsOf list) t → ⊥
+      unfolding regsTo renamed dests shapeOf produced
+      unread r t h l = omega (arith, stale-end s list table passes i t inside (rw is) (names-to list i .below r t (rw is at h)))
+
+      if-kept : kept i ≡ true
+      unfolding outcomeAt outcomeOf shapeOf
+      if-kept = rw if-out
+
+      branch-if-step : Steps
+      unfolding jumps isBranch labelOf effect shapeOf dests
+      branch-if-step = go (m .taken (A .reg w1) w3) refl
+        where
+          go : (b : Bool) → m .taken (A .reg w1) w3 ≡ b → Steps
+          go true q =
+              jump w2 (rw is at (passes .landing i inside)) if-kept (rw (is, q)) (rw (if-out, ← condition, q)) (rw is) (rw if-out) (rw is) (rw if-out) (g .a-runs) (g .b-runs)
+              (running-same s list table g)
+          go false q =
+              goes-on (rw (is, q)) (λ k. rw (if-out, ← condition, q))
+              (inl (rw (is, if-out, if-kept) (reset-after here (rw is) (rw is) (g .a-runs) (g .b-runs) (running-same s list table g) unread)))
+
+    -- ---- by the kind
+
+    -- a record that is no Label is met running
+    running : (kind ≡ label → ⊥) → Running s list table i A B ⊎ Landed s list table i A B → Running s list table i A B
+    running h (inl g) = g
+    running h (inr g) = absurd (h (g .spot))
+
+    one-step : Running s list table i A B ⊎ Landed s list table i A B → isCovered kind ≡ true → Steps
+    one-step agree h =
+        ⊎-elim
+        (λ a. ⊎-elim
+        (λ b. ⊎-elim at-straight at-label (or-cases (isStraight kind) (eqb kind label) b))
+        at-branch (or-cases (isStraight kind || eqb kind label) (eqb kind branch) a))
+        at-branch-if (or-cases (isStraight kind || eqb kind label || eqb kind branch) (eqb kind branchIf) h)
+      where
+        at-straight : isStraight kind ≡ true → Steps
+        at-straight h = straight h (running no-label agree)
+          where
+            no-label : kind ≡ label → ⊥
+            no-label e =
+                let f : isStraight label ≡ true = rw e at h in
+                clash (cc)
+
+        at-label : eqb kind label ≡ true → Steps
+        at-label h =
+            let e = eqb-true kind label h in
+            ⊎-elim (λ g. label-step e (g .a-runs) (g .b-runs) (running-same s list table g)) (λ g. label-step e (g .a-runs) (g .b-runs) (g .same)) agree
+
+        at-branch : eqb kind branch ≡ true → Steps
+        at-branch h =
+            let e = eqb-true kind branch h in
+            branch-step e (running (λ (f : kind ≡ label). omega (arith, e)) agree)
+
+        at-branch-if : eqb kind branchIf ≡ true → Steps
+        at-branch-if h =
+            let e = eqb-true kind branchIf h in
+            let w = wordAt rec in
+            branch-if-step (running (λ (f : kind ≡ label). omega (arith, e)) agree) (w 1) (w 2) (w 3) (w 4) (w 5) (w 6) (w 7)
+            (eight rec (record-length list i inside) ∙ ap (λ (k : ℕ). row k (w 1) (w 2) (w 3) (w 4) (w 5) (w 6) (w 7)) e)
+
+  pub meets-next : (p q : Point Value) → Met p q → p .at < records list → isCovered (wordAt (recordAt list (p .at)) 0) ≡ true
+      → Meets (step m list p) (cond (kept (p .at)) (step m (reduced s list table) q) q)
+  meets-next p q met inside h =
+      subst (λ (x : ℕ). Meets (step m list p) (cond (kept (p .at)) (step m (reduced s list table) (point x (q .state))) (point x (q .state)))) (sym (met .spot))
+      (one-step (p .at) inside (p .state) (q .state) (met .agree) h)
