@@ -1,6 +1,7 @@
-//! Times the original and the port on the same lists, and prints three tables of both: of `optimize`
-//! by the length of a list, and by the number of its registers; and of `survey`, which is the
-//! original's `used_registers` and `populate_labels` together.
+//! Times the original and the port on the same lists, and prints four tables of both: of `optimize`
+//! by the length of a list, by the number of its registers, and, where half of the records are
+//! branches, by its labels; and of `survey`, which is the original's `used_registers` and
+//! `populate_labels` together.
 //!
 //! `cargo run --release --offline --example bench`, in importer/. Timed is the work on lists that
 //! are prepared: the unchanged original's on its own form of the list, and the port's C entry on
@@ -13,9 +14,11 @@ use std::hint::black_box;
 use std::time::{Duration, Instant};
 
 use harness::answers::Survey;
+use harness::kinds::{branch_if, label, load_const};
 use harness::lent::PARTS;
 use harness::lists::{list, List, Profile};
 use harness::random::Random;
+use harness::record::WORDS;
 use harness::run::{self, Ready, Unchanged};
 use harness::settings::Settings;
 use rudzaviks::ffi::{optimize_word, survey_word, Buffers};
@@ -42,6 +45,31 @@ fn lists(records: usize, scalar: bool, cells: u32, count_regs: u32) -> Vec<List>
     let profile = Profile { settings, cells, ..Profile::plain(records) };
     let profile = if scalar { profile.scalar() } else { profile };
     (0..RECORDS / records).map(|_| list(&mut random, &profile)).collect()
+}
+
+/// How the numbers of the labels are chosen: one after the other, any, and so that a table has one
+/// slot for them all.
+const NUMBERS: [(&str, fn(u32) -> u32); 3] = [
+    ("from 0 on", |label| label),
+    ("any", |label| Random::new(u64::from(label)).word()),
+    ("in one slot", |label| label.wrapping_mul(244_002_641)),
+];
+
+/// Numbers of labels.
+const LABELS: [u32; 4] = [2, 100, 1_000, 10_000];
+
+/// A list of labels and branches to them: the labels, and then as many branches as make half of the
+/// records, each to any of them, with a constant loaded after each.
+fn branching(records: usize, labels: u32, number: fn(u32) -> u32) -> List {
+    let mut random = Random::new(u64::from(labels));
+    let mut words: Vec<u32> = (0..labels).flat_map(|at| label(number(at))).collect();
+    while words.len() < records * WORDS {
+        words.extend(branch_if(256, number(random.below(labels)), 0));
+        words.extend(load_const(0, 0));
+    }
+    words.truncate(records * WORDS);
+    let settings = Settings { count_regs: FEW, ..Settings::default() };
+    List { settings, table: Vec::new(), words }
 }
 
 /// The original's time for all lists.
@@ -147,6 +175,14 @@ fn main() {
     println!("|--:|---|---|--:|--:|--:|");
     for kinds in KINDS {
         REGISTERS.iter().for_each(|regs| print_optimize(&regs.to_string(), kinds, LENGTH, *regs));
+    }
+    println!("\n| records | labels | numbers | original, µs | port, µs | port / original |");
+    println!("|--:|--:|---|--:|--:|--:|");
+    for labels in LABELS {
+        for (how, number) in NUMBERS {
+            let times = optimize_times(&[branching(RECORDS, labels, number)]);
+            print_row(&format!("{RECORDS} | {labels} | {how}"), times);
+        }
     }
     println!("\n| records | kinds | original's pair, µs | survey, µs | survey / pair |");
     println!("|--:|---|--:|--:|--:|");

@@ -21,7 +21,7 @@ use Rattle.mir.specs.Shapes.{call, label, dests, sources}
 use Rattle.mir.proofs.Clash.{clash}
 use Rattle.mir.proofs.Renaming.{and-both}
 use Rattle.passes.specs.Create.{endedAt, consume, consumed, endsTo, endsOf}
-use Rattle.passes.proofs.Update.{same-or}
+use Rattle.passes.proofs.Update.{same-or, never-falls}
 
 -- ---- lists
 
@@ -307,8 +307,7 @@ ends-below list zero s h = absurd (omega arith)
 ends-below list (suc i) s h = ends-below-next list i (ends-below list i) s h
 
 pub statics-mono : (list : List ℕ) (k i : ℕ) → staticsTo list i ≤ staticsTo list (k + i)
-statics-mono list zero i = rw native.Mathlib.Nat.zero-add (omega arith)
-statics-mono list (suc k) i = rw native.Mathlib.Nat.suc-add (omega (arith, statics-mono list k i, statics-grow list (k + i)))
+statics-mono list = never-falls (staticsTo list) (statics-grow list)
 
 pub ends-mono : (list : List ℕ) (k i s : ℕ) → s < staticsTo list i → getD (endsTo list i) s 0 ≤ getD (endsTo list (k + i)) s 0
 ends-mono list zero i s h = rw native.Mathlib.Nat.zero-add (omega arith)

@@ -14,7 +14,7 @@ use borrow.Author.Tests.{eqb-true}
 use Rattle.mir.specs.declared.config.Settings.{Settings}
 use Rattle.mir.specs.declared.rename.Current.the-variants.{Static}
 use Rattle.mir.specs.declared.shape.Action.the-variants as action
-use Rattle.mir.specs.Branches.{isLabel, labelAt, isBranch, labelOf}
+use Rattle.mir.specs.Branches.{labelAt, isBranch, labelOf}
 use Rattle.mir.specs.Folds.{anyBelow, lastBelow}
 use Rattle.mir.specs.Questions.{hasLabel}
 use Rattle.mir.specs.Records.{records, recordAt, wordAt, fixedMark}
@@ -22,7 +22,6 @@ use Rattle.mir.specs.Renaming.{produced, renamed, regsTo}
 use Rattle.mir.specs.Shapes.{label, branch, branchIf, row, shapeOf, dests, sources}
 use Rattle.mir.proofs.Clash.{clash}
 use Rattle.mir.proofs.Passing.{ListPasses}
-use Rattle.mir.proofs.Renaming.{and-both}
 use Rattle.passes.specs.Color.{Setup, setup, colorTo, colored, wordsFor, sourceWord}
 use Rattle.passes.specs.Contract.{isKept, outcomeOf, outcomeAt, outAt, reduced}
 use Rattle.passes.specs.Create.{endsOf}
@@ -30,7 +29,7 @@ use Rattle.passes.specs.Machine.{Meaning, State, Point, effect, turn, ju
 use Rattle.passes.proofs.Assign.{staticIn, numberIn}
 use Rattle.passes.proofs.Create.{names-to, not-fresh}
 use Rattle.passes.proofs.Ends.{straight-goes-on, turn-runs}
-use Rattle.passes.proofs.Landing.{place, place-next, kept-record, target-same}
+use Rattle.passes.proofs.Landing.{label-kind, place, place-next, kept-record, target-same}
 use Rattle.passes.proofs.OneRecord.{Same, Running, running-same, Place, reset-after, source-same}
 use Rattle.passes.proofs.Past.{stale-end}
 use Rattle.passes.proofs.Reduced.{same-kind, same-word}
@@ -87,17 +86,14 @@ module _ (s : Settings) (list table : List ℕ) (passes : ListPasses s list tabl
   -- at the Label that a branch goes to, which question 16 asks for
   land : (name : ℕ) {A B : State Value} → hasLabel list name ≡ true → A .over ≡ false → B .over ≡ false → Same s list table A B
       → Met (point (target list name) A) (point (target (reduced s list table) name) B)
-  unfolding target isLabel
+  unfolding target
   land name has a b same =
       let f = last-holds (labelAt list name) (records list) (records list) has in
       record {
         spot = target-same s list table passes name;
         inside = omega (arith, f .0);
-        agree = inr (record { a-runs = a; b-runs = b; same = same; spot = is-label (target list name) (f .1) });
+        agree = inr (record { a-runs = a; b-runs = b; same = same; spot = label-kind name (recordAt list (target list name)) (f .1) });
       }
-    where
-      is-label : (j : ℕ) → labelAt list name j ≡ true → wordAt (recordAt list j) 0 ≡ label
-      is-label j h = eqb-true (wordAt (recordAt list j) 0) label (and-both (eqb (wordAt (recordAt list j) 0) label) (eqb (wordAt (recordAt list j) 1) name) h .0)
 
   module _ (i : ℕ) (inside : i < records list) (A B : State Value) where
     abbrev rec : List ℕ

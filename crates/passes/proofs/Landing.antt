@@ -25,6 +25,7 @@ use Rattle.passes.specs.Machine.{target}
 use Rattle.passes.proofs.Lengths.{out-length, kept-next, reduced-length}
 use Rattle.passes.proofs.Reduced.{same-kind, same-word}
 use Rattle.passes.proofs.Runs.{record-early, record-new}
+use Rattle.passes.proofs.Update.{never-falls}
 
 -- ---- the last number
 
@@ -32,6 +33,10 @@ last-same : (p q : ℕ → Bool) (n : ℕ) → ((i : ℕ) → i < n → p i ≡ 
 unfolding lastBelow
 last-same p q zero h = refl
 last-same p q (suc n) h = rw (h n (omega arith), last-same p q n (λ i l. h i (omega arith)))
+
+pub label-kind : (name : ℕ) (rec : List ℕ) → isLabel name rec ≡ true → wordAt rec 0 ≡ label
+unfolding isLabel
+label-kind name rec h = eqb-true (wordAt rec 0) label (and-both (eqb (wordAt rec 0) label) (eqb (wordAt rec 1) name) h .0)
 
 module _ (s : Settings) (list table : List ℕ) (passes : ListPasses s list table) where
   abbrev u : Setup
@@ -51,8 +56,7 @@ module _ (s : Settings) (list table : List ℕ) (passes : ListPasses s list tabl
   place-next = kept-next (fixedMark s) u
 
   place-mono : (k i : ℕ) → place i ≤ place (k + i)
-  place-mono zero i = rw native.Mathlib.Nat.zero-add (omega arith)
-  place-mono (suc k) i = rw native.Mathlib.Nat.suc-add (omega (arith, place-mono k i, place-next (k + i)))
+  place-mono = never-falls place (λ i. omega (arith, place-next i))
 
   pub place-end : place (records list) ≡ records (reduced s list table)
   unfolding reduced
@@ -100,10 +104,8 @@ module _ (s : Settings) (list table : List ℕ) (passes : ListPasses s list tabl
         go false e = refl
 
     label-kept : (i : ℕ) → i < records list → isLabel name (recordAt list i) ≡ true → kept i ≡ true
-    unfolding isLabel outcomeAt outcomeOf shapeOf
-    label-kept i l h =
-        let k = eqb-true (wordAt (recordAt list i) 0) label (and-both (eqb (wordAt (recordAt list i) 0) label) (eqb (wordAt (recordAt list i) 1) name) h .0) in
-        rw (same-kind s list table passes i l, k)
+    unfolding outcomeAt outcomeOf shapeOf
+    label-kept i l h = rw (same-kind s list table passes i l, label-kind name (recordAt list i) h)
 
     last-next : (i : ℕ) → i < records list → lastBelow (labelAt (to i) name) (place i) ≡ map place (lastBelow (labelAt list name) i)
         → lastBelow (labelAt (to (suc i)) name) (place (suc i)) ≡ map place (lastBelow (labelAt list name) (suc i))

@@ -134,5 +134,10 @@ saved-holds w l allocs c k e = go (isGen w) e
         (λ (a : colourAt (set (clear l allocs) w new) c ≡ colourAt (clear l allocs) c). old (sym (ap (λ (j : Alloc). j .loc) a) ∙ q))
         (set-cases (clear l allocs) w new (alloc 0 Nothing) c)
 
-pub blank-nothing : (c : ℕ) → colourAt blank c .loc ≡ Nothing
+blank-nothing : (c : ℕ) → colourAt blank c .loc ≡ Nothing
 blank-nothing c = ap (λ (a : Alloc). a .loc) (blank-at maxRegs c)
+
+pub no-location : (c : ℕ) (l : Loc) → colourAt blank c .loc ≡ At l → ⊥
+no-location c l q =
+    let f = blank-nothing c in
+    clash (cc)

@@ -20,16 +20,15 @@ use Rattle.mir.proofs.Clash.{clash}
 use Rattle.mir.proofs.Passing.{ListPasses}
 use Rattle.passes.specs.declared.alloc.Alloc.{Alloc}
 use Rattle.passes.specs.declared.alloc.Held.{Held}
-use Rattle.passes.specs.declared.alloc.Held.the-variants.{At}
 use Rattle.passes.specs.declared.symbol.Loc.{Loc}
-use Rattle.passes.specs.Color.{Setup, setup, Coloring, loc, locOf, blank, colourAt, colourOf, sourceWord}
+use Rattle.passes.specs.Color.{Setup, setup, Coloring, loc, locOf, blank, colourOf, sourceWord}
 use Rattle.passes.specs.Color.{updateAllocs, isMember, wordsFor, foundAt, afterDests, sourcesAt, destsAt, colorStep, colorTo}
 use Rattle.passes.specs.Contract.{isBeyond, readSet}
 use Rattle.passes.specs.Create.{endsOf}
 use Rattle.passes.specs.Machine.{State}
 use Rattle.passes.proofs.Assign.{Live, SimIn, staticIn, numberIn}
 use Rattle.passes.proofs.Create.{In, read-end, regs-length}
-use Rattle.passes.proofs.Locations.{blank-nothing}
+use Rattle.passes.proofs.Locations.{no-location}
 use Rattle.passes.proofs.NeverEmpty.{regs-next, before-of, wanted-words, source-static, source-below}
 use Rattle.passes.proofs.Pool.{words}
 use Rattle.passes.proofs.ReadSet.{InLocs, readsAt, is-read}
@@ -224,8 +223,3 @@ module _ (p : Place) (none : dests (rec p) ≡ []) where
     where
       emptied : next p .allocs ≡ blank
       emptied = updated-allocs ∙ rw clears
-
-      no-location : (c : ℕ) (l : Loc) → colourAt blank c .loc ≡ At l → ⊥
-      no-location c l q =
-          let f = blank-nothing c in
-          clash (cc)

@@ -18,6 +18,7 @@ use Rattle.mir.specs.Shapes.{branchIf, sources}
 use Rattle.mir.proofs.Passing.{ListPasses}
 use Rattle.passes.specs.Create.{endsOf}
 use Rattle.passes.proofs.Create.{In, all-in, Unread, statics-grow, unread-end}
+use Rattle.passes.proofs.Update.{never-falls}
 
 module _ (list : List ℕ) where
   past-below : (i : ℕ) → pastTo list i ≤ staticsTo list i
@@ -38,8 +39,7 @@ module _ (list : List ℕ) where
       go false = omega arith
 
   past-mono : (k i : ℕ) → pastTo list i ≤ pastTo list (k + i)
-  past-mono zero i = rw native.Mathlib.Nat.zero-add (omega arith)
-  past-mono (suc k) i = rw native.Mathlib.Nat.suc-add (omega (arith, past-mono k i, past-grow (k + i)))
+  past-mono = never-falls (pastTo list) past-grow
 
 module _ (s : Settings) (list table : List ℕ) (passes : ListPasses s list table) where
   -- a static that a source holds is none of those

@@ -12,12 +12,9 @@ use native.Mathlib.Omega.{arith}
 use Rattle.mir.specs.declared.config.Settings.{Settings}
 use Rattle.mir.specs.Records.{records, recordAt, wordAt, fixedMark}
 use Rattle.mir.specs.Renaming.{regsTo}
-use Rattle.mir.proofs.Clash.{clash}
 use Rattle.mir.proofs.Folds.{all-at, all-each}
 use Rattle.mir.proofs.Passing.{ListPasses, list-passes}
-use Rattle.passes.specs.declared.alloc.Held.the-variants.{At}
-use Rattle.passes.specs.declared.symbol.Loc.{Loc}
-use Rattle.passes.specs.Color.{setup, colorTo, colourAt, blank}
+use Rattle.passes.specs.Color.{setup, colorTo}
 use Rattle.passes.specs.Contract.{isKept, outcomeAt, reduced, countTo}
 use Rattle.passes.specs.Machine.{Meaning, State, Point, first, run, step, ended, onward, stepsTo, EndsIn, onWords}
 use Rattle.passes.specs.Machine.{isScalar, AllScalar, isStraight, AllStraight, isCovered, AllCovered, Passing, EndsEqual, RunsEqual, KeepsUp, RunsKeepUp, Preserves}
@@ -25,7 +22,7 @@ use Rattle.passes.proofs.Create.{not-fresh}
 use Rattle.passes.proofs.Ends.{not-both, runs, over-ended, past-ended, onward-ended, onward-runs, first-end, ends-once, straight-runs}
 use Rattle.passes.proofs.Jumps.{Met, Meets, meets-next}
 use Rattle.passes.proofs.Landing.{place-end, kept-inside}
-use Rattle.passes.proofs.Locations.{blank-nothing}
+use Rattle.passes.proofs.Locations.{no-location}
 use Rattle.passes.proofs.OneRecord.{Same, Running, running-same}
 use Rattle.passes.proofs.Reduced.{same-kind, reduced-holds}
 use Rattle.passes.proofs.Steps.{ends-equal}
@@ -43,11 +40,6 @@ module _ (s : Settings) (list table : List ℕ) (passes : ListPasses s list tabl
   unfolding colorTo regsTo countTo
   meet-first = go (start .over) refl
     where
-      no-location : (c : ℕ) (l : Loc) → colourAt blank c .loc ≡ At l → ⊥
-      no-location c l q =
-          let f = blank-nothing c in
-          clash (cc)
-
       running : start .over ≡ false → Running s list table zero start start
       running h =
           record {

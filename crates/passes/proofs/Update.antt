@@ -1,9 +1,11 @@
--- A function with another value at one place: what it gives there, and elsewhere.
--- By the test of two numbers.
-use Prim.Native.Nat.{ℕ}
+-- A function with another value at one place: what it gives there, and elsewhere; and one that never falls.
+-- By the test of two numbers; by induction on how far apart they are.
+use Prim.Native.Nat.{ℕ, zero, suc, _+_, _≤_}
 use mathlib.Core.Bool.{Bool, true, false, cond}
 use mathlib.Core.Logic.{_⊎_, inl, inr}
 use mathlib.Core.Path.{_≡_, refl}
+use native.Mathlib.Nat.{zero-add, suc-add}
+use native.Mathlib.Omega.{arith}
 use lib.Dec.{eqb}
 use borrow.Author.Tests.{eq-eqb, ne-eqb, eqb-true, eqb-false}
 
@@ -30,3 +32,7 @@ upd-own f k a h x = go (same-or x k)
     go : (x ≡ k) ⊎ (x ≡ k → ⊥) → f x ≡ upd f k a x
     go (inl e) = rw (e, upd-at f k a) h
     go (inr e) = rw (upd-else f k a x e)
+
+pub never-falls : (f : ℕ → ℕ) → ((i : ℕ) → f i ≤ f (suc i)) → (k i : ℕ) → f i ≤ f (k + i)
+never-falls f grows zero i = rw zero-add (omega arith)
+never-falls f grows (suc k) i = rw suc-add (omega (arith, never-falls f grows k i, grows (k + i)))
