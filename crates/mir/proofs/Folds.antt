@@ -1,7 +1,7 @@
--- `allBelow` and `firstRefusal` as a loop meets them: nothing passed, one more, the first that fails, the end.
+-- `allBelow`, `anyBelow` and `firstRefusal` as a loop meets them: nothing passed, one more, the first that fails, the end.
 -- By induction on the count; the code's `n + 1` is the definitions' `suc n`.
 use Prim.Native.Nat.{ℕ, zero, suc, _+_, _<_, _≤_}
-use mathlib.Core.Bool.{Bool, true, false, cond, not, _&&_, and-false, and-true, and-assoc}
+use mathlib.Core.Bool.{Bool, true, false, cond, not, _&&_, _||_, and-false, and-true, and-assoc, or-true, or-false}
 use mathlib.Core.List.{List, [], _∷_, _++_}
 use mathlib.Core.Logic.{_⊎_, inl, inr, ⊎-elim}
 use mathlib.Core.Path.{_≡_, refl, sym, _∙_}
@@ -13,7 +13,7 @@ use lib.Seq.{take-suc, getD-drop}
 use borrow.Author.Tests.{not-true, not-false}
 use Rattle.mir.specs.declared.questions.Verdict.{Verdict}
 use Rattle.mir.specs.declared.questions.Verdict.the-variants.{Passed, Refused}
-use Rattle.mir.specs.Folds.{allBelow, all, refusedAt, orElse, firstRefusal}
+use Rattle.mir.specs.Folds.{allBelow, anyBelow, all, refusedAt, orElse, firstRefusal}
 
 -- n < suc m: below m, or m itself
 pub below-suc : {n m : ℕ} → n < suc m → (n < m) ⊎ (n ≡ m)
@@ -84,6 +84,34 @@ module _ (p : ℕ → Bool) where
         and-true (p (getD (drop from ws) n 0)),
         getD-drop from ws n 0,
       )
+
+module _ (p : ℕ → Bool) where
+  pub any-some : (n j : ℕ) → j < n → p j ≡ true → anyBelow n p ≡ true
+  unfolding anyBelow
+  any-some zero j l h = absurd (omega arith)
+  any-some (suc n) j l h =
+      ⊎-elim (λ (k : j < n). rw (any-some n j k h)) (λ (e : j ≡ n). rw (← e, h) (or-true (anyBelow j p)))
+      (below-suc l)
+
+  pub any-none : (n : ℕ) → ((j : ℕ) → j < n → p j ≡ false) → anyBelow n p ≡ false
+  unfolding anyBelow
+  any-none zero h = refl
+  any-none (suc n) h = rw (any-none n (λ j l. h j (omega arith)), h n (omega arith))
+
+module _ (p q : ℕ → Bool) where
+  pub any-same : (n : ℕ) → ((j : ℕ) → j < n → p j ≡ q j) → anyBelow n p ≡ anyBelow n q
+  unfolding anyBelow
+  any-same zero h = refl
+  any-same (suc n) h = rw (any-same n (λ j l. h j (omega arith)), h n (omega arith))
+
+  pub any-kept : (n : ℕ) → ((j : ℕ) → j < n → p j ≡ true → q j ≡ true) → anyBelow n p ≡ true → anyBelow n q ≡ true
+  unfolding anyBelow
+  any-kept zero h a = a
+  any-kept (suc n) h a = go (p n) refl a (any-kept n (λ j l. h j (omega arith)))
+    where
+      go : (b : Bool) → p n ≡ b → (anyBelow n p || b) ≡ true → (anyBelow n p ≡ true → anyBelow n q ≡ true) → (anyBelow n q || q n) ≡ true
+      go true e t up = rw (h n (omega arith) e) (or-true (anyBelow n q))
+      go false e t up = rw (up (sym (or-false (anyBelow n p)) ∙ t))
 
 -- a number that is 0 for yes and a question's number for no
 pub said-no : (b : Bool) (k : ℕ) {n : ℕ} → n ≡ cond b 0 (suc k) → (n ≡ 0 → ⊥) → b ≡ false

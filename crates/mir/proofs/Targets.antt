@@ -1,24 +1,24 @@
 -- Question 16: the words that are read, the table of numbers (one put in, one taken out, none there), and what a branch is refused by.
--- By whether two numbers have the same slot.
-use Prim.Native.Nat.{ℕ, zero, suc, _+_, _*_, _<_}
-use mathlib.Core.Bool.{Bool, true, false, cond, not, _&&_, and-true, and-not-self}
+-- By whether two places are the same.
+use Prim.Native.Nat.{ℕ, _+_, _*_, _/_, _%_, _<_}
+use mathlib.Core.Bool.{Bool, true, false, cond, not}
 use mathlib.Core.List.{List}
 use mathlib.Core.Path.{_≡_, refl, sym, _∙_}
 use native.Mathlib.Decide.{ℕ-discrete}
 use native.Mathlib.Nat.{add-zero}
 use native.Mathlib.Omega.{arith}
 use lib.Dec.{eqb}
-use lib.ListN.{length, getD, set, replicate, getD-replicate}
+use lib.ListN.{length, getD, set}
 use lib.Seq.{getD-take, getD-drop, getD-set-same, getD-set-other}
 use borrow.Author.Tests.{eq-eqb, ne-eqb, eqb-true}
 use Rattle.mir.specs.declared.branches.Target.{Target}
 use Rattle.mir.specs.declared.branches.Target.the-variants.{To, Nowhere}
 use Rattle.mir.specs.Branches.{labelAt, isLabel, isBranch, labelOf}
-use Rattle.mir.specs.Inner.{targetOf, slotOf, holds, Without, isLeft, Landed}
+use Rattle.mir.specs.Inner.{targetOf, slotOf, holds, Taken, isLeft, Landed}
 use Rattle.mir.specs.Questions.{hasLabel, branchBy}
 use Rattle.mir.specs.Records.{records, recordAt, wordAt}
 use Rattle.mir.specs.Shapes.{label}
-use Rattle.mir.proofs.Folds.{Unrefused}
+use Rattle.mir.proofs.Folds.{Unrefused, any-some, any-none, any-same, any-kept}
 
 -- ---- the words of a record
 
@@ -55,57 +55,55 @@ goes-nowhere rec {target} e told = go (isBranch rec) (labelOf rec) (sym e ∙ to
 
 -- ---- the table
 
-pub slot-below : (number : ℕ) → slotOf number < 4096
+pub slot-below : (number : ℕ) → slotOf number < 512
 unfolding slotOf
 slot-below number = omega arith
 
-module _ (table : List ℕ) (len : length table ≡ 4096) (number : ℕ) where
-  store-here : (v : ℕ) → getD (set table (slotOf number) v) (slotOf number) 0 ≡ v
-  store-here v =
-      let b = slot-below number in
-      getD-set-same table (slotOf number) v 0 (omega arith)
+-- a place by its slot
+pub place-is : {p s : ℕ} → p / 8 ≡ s → s * 8 + p % 8 ≡ p
+place-is e = omega arith
 
-  pub put-there : holds (set table (slotOf number) number) number ≡ true
-  put-there = eq-eqb _ _ (store-here number)
+module _ (table : List ℕ) (number : ℕ) where
+  pub holds-at : (p : ℕ) → p / 8 ≡ slotOf number → getD table p 0 ≡ number → holds table number ≡ true
+  unfolding holds
+  holds-at p e h = any-some _ 8 (p % 8) (omega arith) (rw (place-is e) (eq-eqb _ _ h))
 
-  -- what stands in the slot belongs elsewhere, so nothing is lost
-  pub put-kept : (slotOf (getD table (slotOf number) 0) ≡ slotOf number → ⊥)
-      → (t : ℕ) → holds table t ≡ true → holds (set table (slotOf number) number) t ≡ true
-  put-kept free t h = go (ℕ-discrete (slotOf t) (slotOf number))
+  pub holds-none : ((k : ℕ) → k < 8 → getD table (slotOf number * 8 + k) 0 ≡ number → ⊥) → holds table number ≡ false
+  unfolding holds
+  holds-none h = any-none _ 8 (λ k l. ne-eqb _ _ (h k l))
+
+-- a word is stored at place p
+module _ (table : List ℕ) (len : length table ≡ 4096) (p : ℕ) (within : p < 4096) where
+  store-here : (v : ℕ) → getD (set table p v) p 0 ≡ v
+  store-here v = getD-set-same table p v 0 (omega arith)
+
+  pub put-there : (number : ℕ) → p / 8 ≡ slotOf number → holds (set table p number) number ≡ true
+  put-there number e = holds-at _ number p e (store-here number)
+
+  -- what stands there belongs elsewhere, so nothing is lost
+  pub put-kept : (v : ℕ) → (Taken table p → ⊥) → (t : ℕ) → holds table t ≡ true → holds (set table p v) t ≡ true
+  unfolding holds
+  put-kept v free t = any-kept _ _ 8 (λ k l h. go k l h (ℕ-discrete (slotOf t * 8 + k) p))
     where
-      go : Dec (slotOf t ≡ slotOf number) → holds (set table (slotOf number) number) t ≡ true
-      go (yes e) =
-          let at : getD table (slotOf t) 0 ≡ t = eqb-true _ _ h in
-          absurd (free (rw (← e, at)))
-      go (no g) = rw (getD-set-other table (slotOf number) (slotOf t) number 0 g) h
+      go : (k : ℕ) → k < 8 → eqb (getD table (slotOf t * 8 + k) 0) t ≡ true → Dec (slotOf t * 8 + k ≡ p)
+          → eqb (getD (set table p v) (slotOf t * 8 + k) 0) t ≡ true
+      go k l h (yes e) =
+          let at : getD table (slotOf t * 8 + k) 0 ≡ t = eqb-true _ _ h in
+          absurd (free (rw (← e, at) (omega arith)))
+      go k l h (no g) = rw (getD-set-other table p (slotOf t * 8 + k) v 0 g) h
 
-  -- the number is taken out of its slot s, and no other
-  pub struck : (s v : ℕ) → s ≡ slotOf number → (slotOf v ≡ s → ⊥) → getD table s 0 ≡ number → Without (eqb number) table (set table s v)
-  struck s v is away at t = go (ℕ-discrete (slotOf t) (slotOf number))
+  -- the number that stands there is taken out, and no other
+  pub struck : (number v : ℕ) → p / 8 ≡ slotOf number → (slotOf v ≡ slotOf number → ⊥) → getD table p 0 ≡ number
+      → (t : ℕ) → (number ≡ t → ⊥) → holds (set table p v) t ≡ holds table t
+  unfolding holds
+  struck number v is away at t other = any-same _ _ 8 (λ k l. go k l (ℕ-discrete (slotOf t * 8 + k) p))
     where
-      go : Dec (slotOf t ≡ slotOf number) → holds (set table s v) t ≡ (holds table t && not (eqb number t))
-      go (yes e) =
-          let here : getD table (slotOf number) 0 ≡ number = rw is at at in
-          rw (is, e, store-here v, here, and-not-self (eqb number t)) (ne-eqb v t (λ (q : v ≡ t). away (rw (q, is) e)))
-      go (no g) =
-          rw (is, getD-set-other table (slotOf number) (slotOf t) v 0 g, ne-eqb number t (λ (q : number ≡ t). g (rw q refl)))
-          (sym (and-true (holds table t)))
-
-  pub not-there : (getD table (slotOf number) 0 ≡ number → ⊥) → Without (eqb number) table table
-  not-there gone t = go (ℕ-discrete number t)
-    where
-      go : Dec (number ≡ t) → holds table t ≡ (holds table t && not (eqb number t))
-      go (yes e) = rw (← e, ne-eqb _ _ gone)
-      go (no g) = rw (ne-eqb number t g) (sym (and-true (holds table t)))
-
--- a table of zeros, but for slot 0, to which 0 belongs
-pub empty-table : (n v : ℕ) → (slotOf v ≡ 0 → ⊥) → (s : ℕ) → s < n → slotOf (getD (set (replicate n 0) 0 v) s 0) ≡ s → ⊥
-unfolding slotOf
-empty-table zero v away s l e = omega arith
-empty-table (suc n) v away zero l e = away e
-empty-table (suc n) v away (suc s) l e =
-    let z : 0 ≡ suc s = rw (getD-replicate {A = ℕ} n s 0 0 (omega arith)) at e in
-    omega arith
+      go : (k : ℕ) → k < 8 → Dec (slotOf t * 8 + k ≡ p)
+          → eqb (getD (set table p v) (slotOf t * 8 + k) 0) t ≡ eqb (getD table (slotOf t * 8 + k) 0) t
+      go k l (yes e) =
+          let same : slotOf t ≡ slotOf number = omega arith in
+          rw (e, store-here v, at, ne-eqb number t other) (ne-eqb v t (λ (q : v ≡ t). away (rw q same)))
+      go k l (no g) = rw (getD-set-other table p (slotOf t * 8 + k) v 0 g)
 
 -- ---- question 16 of a record
 

@@ -1,5 +1,5 @@
 -- Inner: no promise is made in these words.
-use Prim.Native.Nat.{ℕ, _*_, _/_, _%_, _<_, _≤_}
+use Prim.Native.Nat.{ℕ, _+_, _*_, _/_, _%_, _<_, _≤_}
 use mathlib.Core.Bool.{Bool, true, false, cond, not, _&&_}
 use mathlib.Core.List.{List, [], _∷_, map}
 use mathlib.Core.Path.{_≡_}
@@ -13,7 +13,7 @@ use Rattle.mir.specs.declared.rename.Current.the-variants.{Static, Unset
 use Rattle.mir.specs.declared.shape.Dests.{Dests}
 use Rattle.mir.specs.declared.shape.Dests.the-variants.{Nothing, One, Two}
 use Rattle.mir.specs.Branches.{isBranch, labelOf}
-use Rattle.mir.specs.Folds.{firstRefusal}
+use Rattle.mir.specs.Folds.{anyBelow, firstRefusal}
 use Rattle.mir.specs.Questions.{hasLabel, branchBy}
 use Rattle.mir.specs.Records.{records, recordAt}
 use Rattle.mir.specs.Shapes.{any}
@@ -35,27 +35,37 @@ currentsIn words = map currentIn words
 abbrev pub targetOf : List ℕ → Target
 targetOf rec = cond (isBranch rec) (To (labelOf rec)) Nowhere
 
--- the table of numbers: a number's slot, and a number is in the table if it stands there
+-- the table of numbers: a number's slot, whose places are the eight from eight times the slot on, and a number is in the table if
+-- it stands at one of them
 unfoldable pub slotOf : ℕ → ℕ
-slotOf number = number * 2654435761 / 1048576 % 4096
+slotOf number = number * 2654435761 / 8388608 % 512
 
-abbrev pub holds : List ℕ → ℕ → Bool
-holds table number = eqb (getD table (slotOf number) 0) number
+unfoldable pub holds : List ℕ → ℕ → Bool
+holds table number = anyBelow 8 (λ k. eqb (getD table (slotOf number * 8 + k) 0) number)
 
--- each slot has a number that belongs elsewhere
+-- a place is taken if the number there belongs to its slot, and else it is empty
+abbrev pub Taken : List ℕ → ℕ → Type 0
+Taken table p = slotOf (getD table p 0) ≡ p / 8
+
 abbrev pub Empty : List ℕ → Type 0
-Empty table = (s : ℕ) → s < 4096 → slotOf (getD table s 0) ≡ s → ⊥
+Empty table = (p : ℕ) → p < 4096 → Taken table p → ⊥
+
+-- an empty place of slot s; from 4,096 on: there is none
+pub record Room (table : List ℕ) (s p : ℕ) : Type 0 where
+  pub inside : p < 4096 → p / 8 ≡ s
+  pub free : p < 4096 → Taken table p → ⊥
+  pub full : 4096 ≤ p → (q : ℕ) → q / 8 ≡ s → Taken table q
 
 -- record by record, none below i is refused by question 16
 pub record Landed (list : List ℕ) (i : ℕ) : Type 0 where
   pub within : i ≤ records list
   pub passed : firstRefusal (branchBy list) i ≡ Passed
 
--- the number of a branch is put into the table, if its slot is free: `done` says whether it is there
+-- the number of a branch is put into the table, if one of its places is empty: `done` says whether it is there
 pub record Put (rec before after : List ℕ) (done : Bool) : Type 0 where
   pub kept : (number : ℕ) → holds before number ≡ true → holds after number ≡ true
   pub there : done ≡ true → isBranch rec ≡ true → holds after (labelOf rec) ≡ true
-  pub taken : done ≡ false → slotOf (getD before (slotOf (labelOf rec)) 0) ≡ slotOf (labelOf rec)
+  pub full : done ≡ false → (p : ℕ) → p / 8 ≡ slotOf (labelOf rec) → Taken before p
 
 -- the number of each branch between two records is in the table
 pub record Collected (list : List ℕ) (from until : ℕ) (table : List ℕ) : Type 0 where

@@ -1,20 +1,23 @@
 // Question 16 (document 02, request 10): each Branch and BranchIf has a Label with its number somewhere in the list.
 // The list is not walked for each branch, but in rounds, mostly one. The numbers of the branches go into a table, up to the first
-// whose slot is taken; a walk over the list takes out the number of each Label; a branch whose number is left is bad.
+// that finds no place; a walk over the list takes out the number of each Label; a branch whose number is left is bad.
+// A number has one of 512 slots, and a slot has eight places, so up to eight numbers that share a slot fit into one round.
 use crate::questions::Verdict;
 use crate::shape::BRANCH;
 use crate::shape::BRANCH_IF;
 use crate::shape::LABEL;
 ghost use Prim.Native.Nat.{_+_, _*_, _<_, _≤_};
 ghost use mathlib.Core.Path.{_≡_};
-ghost use lib.ListN.{length};
-ghost use Rattle.mir.specs.Inner.{slotOf, Empty, targetOf, isLeft, Landed, Put, Collected, Without, Settled, FirstLeft};
+ghost use lib.Dec.{eqb};
+ghost use lib.ListN.{length, replicate};
+ghost use Rattle.mir.specs.Inner.{slotOf, holds, Empty, Room, Without};
+ghost use Rattle.mir.specs.Inner.{targetOf, isLeft, Landed, Put, Collected, Settled, FirstLeft};
 ghost use Rattle.mir.specs.Branches.{labelAt};
 ghost use Rattle.mir.specs.Questions.{hasLabel, branchRefusal};
 ghost use Rattle.mir.specs.Records.{records, recordAt};
 
-// How many numbers the table has room for. A number is in the table if it stands in its slot.
-const SLOTS: usize = 4_096;
+// How many numbers the table has room for, eight to a slot. A number is in the table if it stands at a place of its slot.
+const PLACES: usize = 4_096;
 
 // Where a record goes: to the Label with a number, if it is a branch.
 pub enum Target {
@@ -22,19 +25,64 @@ pub enum Target {
     Nowhere,
 }
 
-// The slot of a number: the top twelve bits of a product of 32 bits, by which numbers that follow each other lie far apart.
+// The slot of a number: the top nine bits of a product of 32 bits, by which numbers that follow each other lie far apart.
 fn slot(number: u32) -> usize
     ensures is { λ r. ⌜ r ≡ slotOf number ⌝ }
-    ensures below { λ r. ⌜ r < 4096 ⌝ }
+    ensures below { λ r. ⌜ r < 512 ⌝ }
 {
-    ((number as u64) * 2_654_435_761 / 1_048_576 % 4_096) as usize
+    ((number as u64) * 2_654_435_761 / 8_388_608 % 512) as usize
 }
 
-// What an empty slot holds: a number that belongs to another slot.
+// What an empty place of a slot holds: a number that belongs to another slot.
 fn away(s: usize) -> u32
     ensures { λ r. ⌜ (slotOf r ≡ s → ⊥) ⌝ }
 {
     if s == 0 { 1 } else { 0 }
+}
+
+// Empties a table of zeros: 0 belongs to slot 0, so the places of that slot get another number.
+fn empty(table: &mut [u32])
+    requires { ⌜ now table ≡ replicate 4096 0 ⌝ }
+    ensures { λ _. ⌜ Empty (now (table .exit)) ⌝ }
+{
+    let mut p = 0;
+    while p < 8 {
+        table[p] = away(0);
+        p += 1;
+    }
+}
+
+// Whether a number is in the table.
+fn is_in(table: &[u32], number: u32) -> bool
+    requires { ⌜ length (now table) ≡ 4096 ⌝ }
+    ensures { λ r. ⌜ r ≡ holds (now (table .entry)) number ⌝ }
+{
+    let first = slot(number) * 8;
+    let mut k = 0;
+    while k < 8 {
+        if table[first + k] == number {
+            return true;
+        }
+        k += 1;
+    }
+    false
+}
+
+// The first empty place of a slot, or the number of places.
+fn find_room(table: &[u32], s: usize) -> usize
+    requires { ⌜ length (now table) ≡ 4096 ⌝ }
+    requires { ⌜ s < 512 ⌝ }
+    ensures { λ r. ⌜ Room (now (table .entry)) s r ⌝ }
+{
+    let first = s * 8;
+    let mut k = 0;
+    while k < 8 {
+        if slot(table[first + k]) != s {
+            return first + k;
+        }
+        k += 1;
+    }
+    PLACES
 }
 
 // Where record `i` goes. Its words are read one by one, for a walk looks at most records' kinds only.
@@ -67,7 +115,7 @@ fn first_branch(list: &[u32]) -> usize
     n
 }
 
-// Puts the number of record `i`, if it is a branch, into the table. Says no if another number has its slot.
+// Puts the number of record `i`, if it is a branch, into the table. Says no if other numbers have all its places.
 fn put_branch(list: &[u32], i: usize, table: &mut [u32]) -> bool
     requires { ⌜ length (now table) ≡ 4096 ⌝ }
     requires { ⌜ i * 8 + 8 ≤ length (now list) ⌝ }
@@ -77,19 +125,18 @@ fn put_branch(list: &[u32], i: usize, table: &mut [u32]) -> bool
     let Target::To(number) = target else {
         return true;
     };
-    let s = slot(number);
-    let there = table[s];
-    if there == number {
+    if is_in(table, number) {
         return true;
     }
-    if slot(there) == s {
+    let p = find_room(table, slot(number));
+    if p >= PLACES {
         return false;
     }
-    table[s] = number;
+    table[p] = number;
     true
 }
 
-// Puts the numbers of the branches from record `from` on into the table, up to the first whose slot is taken. Gives its index,
+// Puts the numbers of the branches from record `from` on into the table, up to the first that finds no place. Gives its index,
 // or the number of records.
 fn collect(list: &[u32], from: usize, table: &mut [u32]) -> usize
     requires { ⌜ length (now table) ≡ 4096 ⌝ }
@@ -108,6 +155,22 @@ fn collect(list: &[u32], from: usize, table: &mut [u32]) -> usize
     n
 }
 
+// Takes a number out of the table: from each of its places that holds it.
+fn take_out(number: u32, table: &mut [u32])
+    requires { ⌜ length (now table) ≡ 4096 ⌝ }
+    ensures { λ _. ⌜ Without (eqb number) (now (table .entry)) (now (table .exit)) ⌝ }
+{
+    let s = slot(number);
+    let mut k = 0;
+    while k < 8 {
+        let p = s * 8 + k;
+        if table[p] == number {
+            table[p] = away(s);
+        }
+        k += 1;
+    }
+}
+
 // Takes the number of record `i`, if it is a Label, out of the table.
 fn strike_label(list: &[u32], i: usize, table: &mut [u32])
     requires { ⌜ length (now table) ≡ 4096 ⌝ }
@@ -115,13 +178,8 @@ fn strike_label(list: &[u32], i: usize, table: &mut [u32])
     ensures { λ _. ⌜ Without (λ name. labelAt (now (list .entry)) name i) (now (table .entry)) (now (table .exit)) ⌝ }
 {
     let b = i * 8;
-    if list[b] != LABEL {
-        return;
-    }
-    let number = list[b + 1];
-    let s = slot(number);
-    if table[s] == number {
-        table[s] = away(s);
+    if list[b] == LABEL {
+        take_out(list[b + 1], table);
     }
 }
 
@@ -139,7 +197,7 @@ fn strike(list: &[u32], table: &mut [u32])
 }
 
 // Whether record `i` is a branch whose number is in the table.
-fn is_left(list: &[u32], i: usize, table: &[u32; SLOTS]) -> bool
+fn is_left(list: &[u32], i: usize, table: &[u32; PLACES]) -> bool
     requires { ⌜ i * 8 + 8 ≤ length (now list) ⌝ }
     ensures { λ r. ⌜ r ≡ isLeft (now (table .entry)) (recordAt (now (list .entry)) i) ⌝ }
 {
@@ -147,11 +205,11 @@ fn is_left(list: &[u32], i: usize, table: &[u32; SLOTS]) -> bool
     let Target::To(number) = target else {
         return false;
     };
-    table[slot(number)] == number
+    is_in(table, number)
 }
 
 // The first branch before record `until` whose number is in the table, or `until`.
-fn first_left(list: &[u32], from: usize, until: usize, table: &[u32; SLOTS]) -> usize
+fn first_left(list: &[u32], from: usize, until: usize, table: &[u32; PLACES]) -> usize
     requires { ⌜ from ≤ until ⌝ }
     requires { ⌜ until ≤ records (now list) ⌝ }
     requires { ⌜ Landed (now list) from ⌝ }
@@ -176,8 +234,8 @@ pub fn check_branches(list: &[u32]) -> Verdict
     let n = list.len() / 8;
     let mut from = first_branch(list);
     while from < n {
-        let mut table = [0u32; SLOTS];
-        table[0] = away(0);
+        let mut table = [0u32; PLACES];
+        empty(&mut table);
         let until = collect(list, from, &mut table);
         strike(list, &mut table);
         let bad = first_left(list, from, until, &table);

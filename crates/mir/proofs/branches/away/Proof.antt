@@ -1,4 +1,4 @@
--- `mir::branches::away` meets its contract: 1 belongs to slot 2,531, and 0 to slot 0.
+-- `mir::branches::away` meets its contract: 1 belongs to slot 316, and 0 to slot 0.
 -- By computation.
 use native.Mathlib.Omega.{arith}
 use Rattle.mir.specs.Inner.{slotOf}

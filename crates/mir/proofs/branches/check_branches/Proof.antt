@@ -1,14 +1,14 @@
 -- `mir::branches::check_branches` meets its contract: no record before a round is refused, and the first branch that is left decides.
 -- By the laws of a walk that stops at the first refusal; what was collected and not struck has no Label.
 use Prim.Native.Nat.{_-_}
-use mathlib.Core.Path.{_≡_, refl, sym, subst}
+use mathlib.Core.Path.{_≡_, refl, sym, _∙_, subst}
 use native.Mathlib.Omega.{arith}
 use borrow.Author.Needs.{needs}
 use denote.Ref.{now}
 use Rattle.mir.specs.Questions.{branchBy, branchRefusal}
 use Rattle.mir.specs.Records.{records}
 use Rattle.mir.proofs.Folds.{Unrefused, unrefused-stops, unrefused-ends}
-use Rattle.mir.proofs.Targets.{landed, unrefused, empty-table}
+use Rattle.mir.proofs.Targets.{landed, unrefused}
 use Rattle.mir.proofs.branches.check_branches.Statement.{statement}
 use Rattle.mir.proofs.branches.check_branches.Tie as tie
 
@@ -22,16 +22,24 @@ abbrev μ-loop : tie.MeasureT-loop
 abbrev collected : tie.After-strike Inv-loop μ-loop → tie.After-collect Inv-loop μ-loop
 collected s = s .before .before .before
 
+abbrev emptied : tie.After-collect Inv-loop μ-loop → tie.After-empty Inv-loop μ-loop
+emptied k = k .before .before .before
+
 abbrev turn : tie.After-collect Inv-loop μ-loop → tie.In-loop Inv-loop μ-loop
-turn k = k .before .before .before
+turn k = emptied k .before .before
 
 abbrev struck : tie.After-first-left Inv-loop μ-loop → tie.After-strike Inv-loop μ-loop
 struck f = f .before .before .before
 
 collect-requires : tie.Need-collect-requires Inv-loop μ-loop
 collect-requires c κs =
-    let a = c .before in
-    (refl, (a .before .loop-test .taken, empty-table 4096 _ (a .away .ensures)))
+    let o = c .before .before in
+    (o .empty .kept .0, (o .before .before .loop-test .taken, o .empty .ensures))
+
+strike-requires : tie.Need-strike-requires Inv-loop μ-loop
+strike-requires c κs =
+    let k = c .before .before in
+    k .collect .kept .1 .1 .0 ∙ emptied k .empty .kept .0
 
 first-left-requires : tie.Need-first-left-requires Inv-loop μ-loop
 first-left-requires c κs =
@@ -76,9 +84,9 @@ check-branches-spec =
     μ-loop
     (λ c κs. search needs)
     (λ c. unrefused (c .first-branch .ensures))
-    (λ c κs. search needs) (λ c. search needs) (λ c. refl)
+    (λ c. search needs) (λ c κs. refl) (λ c. search needs)
     collect-requires
-    (λ c. search needs) (λ c κs. c .before .before .collect .kept .1 .1 .0)
+    (λ c. search needs) strike-requires
     first-left-requires
     (λ c. search needs)
     returns

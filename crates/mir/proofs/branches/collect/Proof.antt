@@ -1,6 +1,6 @@
 -- `mir::branches::collect` meets its contract: the branches passed are in the table, and the first always gets in.
 -- By what a number that is put leaves in the table; the first finds the table empty.
-use Prim.Native.Nat.{ℕ, _-_, _+_, _≤_, _<_}
+use Prim.Native.Nat.{ℕ, _-_, _+_, _*_, _≤_, _<_}
 use mathlib.Core.Bool.{Bool, true, false}
 use mathlib.Core.List.{List}
 use mathlib.Core.Logic.{⊎-elim}
@@ -12,7 +12,7 @@ use lib.ListN.{length}
 use borrow.Author.Needs.{needs}
 use borrow.Author.Tests.{not-true, not-false}
 use Rattle.mir.specs.Branches.{isBranch, labelOf}
-use Rattle.mir.specs.Inner.{holds, Empty, Put}
+use Rattle.mir.specs.Inner.{slotOf, holds, Empty, Put}
 use Rattle.mir.specs.Records.{recordAt}
 use Rattle.mir.proofs.Folds.{below-suc}
 use Rattle.mir.proofs.Targets.{slot-below}
@@ -35,7 +35,9 @@ module _ {list table₀ table : List ℕ} {from i : ℕ} (h : Collecting list ta
       go (yes l) = l
       go (no g) =
           let e = h .untouched (omega (arith, g, h .after)) in
-          absurd (empty _ (slot-below (labelOf (recordAt list i))) (rw e at (put .taken out)))
+          let b = slot-below (labelOf (recordAt list i)) in
+          let p = slotOf (labelOf (recordAt list i)) * 8 in
+          absurd (empty p (omega arith) (rw e at (put .full out p (omega arith))))
 
   -- a number that gets in
   goes-on : {after : List ℕ} {done : Bool} → length after ≡ length table → Put (recordAt list i) table after done → done ≡ true

@@ -1,4 +1,4 @@
--- `mir::branches::is_left` meets its contract: a branch has a number, which stands in its slot or not.
+-- `mir::branches::is_left` meets its contract: a branch has a number, which is in the table or not.
 -- By what the target says of the record.
 use borrow.Author.Needs.{needs}
 use Rattle.mir.proofs.Targets.{goes-to, goes-nowhere}
@@ -12,7 +12,7 @@ returns-2 : tie.Need-returns-2
 returns-2 c =
     let t = c .before .before .before in
     let to = goes-to _ (t .before .before .target-at .ensures) (t .target .given .1) in
-    rw (to .0, to .1, c .before .slot .ensures .0)
+    rw (to .0, to .1) (c .is-in .ensures)
 
 pub is-left-spec : {M : Type 1} → statement M
 is-left-spec =
@@ -20,5 +20,5 @@ is-left-spec =
     (tie.spec
     (λ c κs. search needs) (λ c. search needs) (λ c. search needs)
     returns
-    (λ c κs. search needs) (λ c. search needs) (λ c. search needs)
+    (λ c κs. search needs)
     returns-2)

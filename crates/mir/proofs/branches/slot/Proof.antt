@@ -1,5 +1,5 @@
--- `mir::branches::slot` meets its contract: the definition's slot, below 4,096.
--- A remainder by 4,096 is.
+-- `mir::branches::slot` meets its contract: the definition's slot, below 512.
+-- A remainder by 512 is.
 use mathlib.Core.Path.{refl}
 use borrow.Author.Needs.{needs}
 use Rattle.mir.specs.Inner.{slotOf}
