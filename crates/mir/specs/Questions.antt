@@ -72,7 +72,8 @@ named regs w = cond (isGen w) (isStatic (getD regs w Unset)) true
 unfoldable pub sourcesNamed : List Current → List ℕ → Bool
 sourcesNamed regs rec = all (named regs) (sources rec)
 
--- 15. Was each Gen source written since the last BranchIf? `past` is how many statics were written before it
+-- 15. Was each Gen source written since the last BranchIf? `past` is how many statics were written before it; a register
+-- without one is question 9's
 abbrev pub isSince : ℕ → Current → Bool
 isSince past (Static s) = leb past s
 isSince past Unset = true

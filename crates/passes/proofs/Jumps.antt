@@ -33,7 +33,7 @@ use Rattle.passes.proofs.Landing.{label-kind, place, place-next, kept-r
 use Rattle.passes.proofs.OneRecord.{Same, Running, running-same, Place, reset-after, source-same}
 use Rattle.passes.proofs.Past.{stale-end}
 use Rattle.passes.proofs.Reduced.{same-kind, same-word}
-use Rattle.passes.proofs.Runs.{record-length, eight}
+use Rattle.passes.proofs.Rows.{record-length, eight}
 use Rattle.passes.proofs.Steps.{Stopped, Agree, or-cases, straight-step}
 
 abbrev point : {Value : Type 0} → ℕ → State Value → Point Value

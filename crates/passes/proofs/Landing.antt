@@ -24,7 +24,7 @@ use Rattle.passes.specs.Contract.{isKept, outcomeOf, outcomeAt, outAt, r
 use Rattle.passes.specs.Machine.{target}
 use Rattle.passes.proofs.Lengths.{out-length, kept-next, reduced-length}
 use Rattle.passes.proofs.Reduced.{same-kind, same-word}
-use Rattle.passes.proofs.Runs.{record-early, record-new}
+use Rattle.passes.proofs.Rows.{record-early, record-new}
 use Rattle.passes.proofs.Update.{never-falls}
 
 -- ---- the last number

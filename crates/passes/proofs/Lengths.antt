@@ -16,7 +16,7 @@ use Rattle.passes.specs.declared.alloc.Outcome.the-variants.{Kept, Nop, 
 use Rattle.passes.specs.declared.alloc.Held.{Held}
 use Rattle.passes.specs.Color.{Setup, Coloring, wanted, sourceWord, afterDest, wordsFor, sourcesAt, destsAt, colored, colorTo}
 use Rattle.passes.specs.Contract.{isKept, outcomeAt, outAt, reducedTo, outcomeNumber, countTo}
-use Rattle.passes.proofs.Runs.{record-length}
+use Rattle.passes.proofs.Rows.{record-length}
 
 words-length : (n i : ℕ) (E : List ℕ) (ds : List (ℕ × Held)) (st : Coloring) → length (wordsFor n i E ds st) ≡ length ds
 unfolding wordsFor

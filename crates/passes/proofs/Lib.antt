@@ -30,7 +30,7 @@ pub mod Writes
 pub mod Saves
 pub mod OneRecord
 pub mod Steps
-pub mod Runs
+pub mod Rows
 pub mod Past
 pub mod Landing
 pub mod Jumps

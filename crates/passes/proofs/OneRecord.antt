@@ -180,14 +180,14 @@ module _ (p : Place) (none : dests (rec p) ≡ []) where
   unfolding afterDests
   nothing-given = rw none
 
-  pub same-colours : next p .colours ≡ state p .colours
+  same-colours : next p .colours ≡ state p .colours
   unfolding colorTo colorStep
   same-colours = ap (λ (k : Coloring). k .colours) nothing-given
 
   abbrev source : ℕ → ℕ
   source k = getD (sourcesAt (made p) (p .i) (state p)) k 0
 
-  pub updated-allocs : next p .allocs ≡ updateAllocs (shapeFor (rec p) .action) (locOf (rec p)) (source 0) (source 1) (state p .allocs)
+  updated-allocs : next p .allocs ≡ updateAllocs (shapeFor (rec p) .action) (locOf (rec p)) (source 0) (source 1) (state p .allocs)
   unfolding colorTo colorStep
   updated-allocs = ap (λ (k : Coloring). updateAllocs (shapeFor (rec p) .action) (locOf (rec p)) (source 0) (source 1) (k .allocs)) nothing-given
 
@@ -203,7 +203,7 @@ module _ (p : Place) (none : dests (rec p) ≡ []) where
         → Live (count p) (suc (p .i)) (endsOf (p .list)) (regs p) (state p .colours) al → After p A B
     none-after e = after p same-regs same-colours (updated-allocs ∙ e)
 
-  -- and resets them: no colour holds a location, and each register that is still to be read has its static's value
+  -- and resets them: no colour holds a location, and no register a static that is still to be read
   pub reset-after : {Value : Type 0} {A B : State Value} → shapeFor (rec p) .action ≡ action.Clear → A .over ≡ false → B .over ≡ false → Same (p .s) (p .list) (p .table) A B
       → ((r t : ℕ) → staticIn (regsTo (p .list) (suc (p .i))) r ≡ Static t → suc (p .i) ≤ numberIn (endsOf (p .list)) t → ⊥) → After p A B
   reset-after {Value} {A} {B} clears a b same unread =

@@ -38,7 +38,7 @@ use Rattle.passes.proofs.Create.{In, all-in}
 use Rattle.passes.proofs.Lengths.{dest-words-length, source-words-length, out-length, kept-next, reduced-length}
 use Rattle.passes.proofs.Pool.{words, colour-fits}
 use Rattle.passes.proofs.NeverEmpty.{choices-of, wanted-words, source-below}
-use Rattle.passes.proofs.Runs.{record-length, record-early, record-new}
+use Rattle.passes.proofs.Rows.{record-length, record-early, record-new}
 
 -- ---- a list with its middle replaced: a words from place r on
 
