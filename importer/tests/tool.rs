@@ -92,23 +92,28 @@ fn the_sample_is_shown_before_and_after() {
     assert_eq!(last, Some(counts));
 }
 
+/// That a sample is shown with these lines after the mark, by number, and these counts.
+fn is_shown(sample: &str, lines: &[(u32, char, &str)], counts: &str) {
+    let output = run(&["reduce", sample], b"").succeeds();
+    lines_fit(output.out());
+    for (number, mark, after) in lines {
+        let mut shown = output.out().lines().map(str::trim_start);
+        let line = shown.find(|line| line.starts_with(&format!("{number}  "))).expect("its line");
+        assert!(line.ends_with(&format!(" {mark} {after}")), "{line}");
+    }
+    assert!(output.out().ends_with(&format!("{counts}\n")), "{}", output.out());
+}
+
 /// A load of two halves stays if one of them is at hand, and goes if both are.
 #[test]
 fn the_two_part_sample_is_shown_before_and_after() {
-    let output = run(&["reduce", TWO_PART], b"").succeeds();
-    lines_fit(output.out());
-    for (number, mark, after) in [
+    let lines = [
         (14, '|', "(%1 + %0*im) := Mem[0]"),
         (16, '<', "dropped: nothing kept reads Stack[16] or Stack[17], at or above"),
         (17, '<', "dropped: Stack[16] is already in %2, and Stack[17] in %1"),
         (18, '|', "Mem[2] := (%2 + %1*im)"),
-    ] {
-        let mut lines = output.out().lines().map(str::trim_start);
-        let line = lines.find(|line| line.starts_with(&format!("{number}  "))).expect("its line");
-        assert!(line.ends_with(&format!(" {mark} {after}")), "{line}");
-    }
-    let counts = "8 instructions before, 6 after; dropped: 1 load, 1 save\n";
-    assert!(output.out().ends_with(counts), "{}", output.out());
+    ];
+    is_shown(TWO_PART, &lines, "8 instructions before, 6 after; dropped: 1 load, 1 save");
 }
 
 /// The text with four spaces before each line.
@@ -144,21 +149,14 @@ fn the_readme_shows_what_the_samples_give() {
 /// What a try works out stays in registers; past the branch it is loaded again.
 #[test]
 fn the_sample_with_a_loop_is_shown_before_and_after() {
-    let output = run(&["reduce", BRANCH], b"").succeeds();
-    lines_fit(output.out());
-    for (number, mark, after) in [
+    let lines = [
         (19, '<', "dropped: nothing kept reads Stack[16], at or above the fixed mark"),
         (27, '<', "dropped: Mem[2] is already in %2"),
         (28, '<', "dropped: Stack[16] is already in %0"),
         (33, '|', "if %3 goto 7"),
         (37, ' ', "%1 := Mem[2]"),
-    ] {
-        let mut lines = output.out().lines().map(str::trim_start);
-        let line = lines.find(|line| line.starts_with(&format!("{number}  "))).expect("its line");
-        assert!(line.ends_with(&format!(" {mark} {after}")), "{line}");
-    }
-    let counts = "22 instructions before, 19 after; dropped: 2 loads, 1 save\n";
-    assert!(output.out().ends_with(counts), "{}", output.out());
+    ];
+    is_shown(BRANCH, &lines, "22 instructions before, 19 after; dropped: 2 loads, 1 save");
 }
 
 #[test]

@@ -1,34 +1,26 @@
--- Question 16: the words that are read, the table of numbers (one put in, one taken out, none there), and what a branch is refused by.
+-- Question 16: what the words that are read say, the table of numbers (one put in, one taken out, none there), and what a branch is refused by.
 -- By whether two places are the same.
 use Prim.Native.Nat.{ℕ, _+_, _*_, _/_, _%_, _<_}
 use mathlib.Core.Bool.{Bool, true, false, cond, not}
 use mathlib.Core.List.{List}
 use mathlib.Core.Path.{_≡_, refl, sym, _∙_}
 use native.Mathlib.Decide.{ℕ-discrete}
-use native.Mathlib.Nat.{add-zero}
 use native.Mathlib.Omega.{arith}
 use lib.Dec.{eqb}
 use lib.ListN.{length, getD, set}
-use lib.Seq.{getD-take, getD-drop, getD-set-same, getD-set-other}
+use lib.Seq.{getD-set-same, getD-set-other}
 use borrow.Author.Tests.{eq-eqb, ne-eqb, eqb-true}
 use Rattle.mir.specs.declared.branches.Target.{Target}
 use Rattle.mir.specs.declared.branches.Target.the-variants.{To, Nowhere}
 use Rattle.mir.specs.Branches.{labelAt, isLabel, isBranch, labelOf}
 use Rattle.mir.specs.Inner.{targetOf, slotOf, holds, Taken, isLeft, Landed}
 use Rattle.mir.specs.Questions.{hasLabel, branchBy}
-use Rattle.mir.specs.Records.{records, recordAt, wordAt}
+use Rattle.mir.specs.Records.{records, recordAt}
 use Rattle.mir.specs.Shapes.{label}
 use Rattle.mir.proofs.Folds.{Unrefused, any-some, any-none, any-same, any-kept}
+use Rattle.mir.proofs.Records.{word-is, kind-is}
 
--- ---- the words of a record
-
-pub word-is : (list : List ℕ) (i p : ℕ) → p < 8 → wordAt (recordAt list i) p ≡ getD list (i * 8 + p) 0
-unfolding recordAt
-word-is list i p l = rw (getD-take, getD-drop)
-
-pub kind-is : (list : List ℕ) (i : ℕ) → wordAt (recordAt list i) 0 ≡ getD list (i * 8) 0
-kind-is list i = word-is list i 0 (omega arith) ∙ simp add-zero
-
+-- ---- a Label's words, and a branch's
 pub label-is : (list : List ℕ) (i : ℕ) → getD list (i * 8) 0 ≡ label → (name : ℕ) → labelAt list name i ≡ eqb (getD list (i * 8 + 1) 0) name
 unfolding isLabel
 label-is list i e name = rw (kind-is list i, e, word-is list i 1 (omega arith))

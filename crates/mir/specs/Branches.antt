@@ -1,4 +1,5 @@
--- Public, document 02, request 10: labels, the branches to them, and what was written before a BranchIf.
+-- Public, document 01, section 6, and document 02, request 10: labels, the branches to them, and what was written before a
+-- BranchIf.
 use Prim.Native.Nat.{ℕ, zero, suc}
 use mathlib.Core.Bool.{Bool, cond, _&&_, _||_}
 use mathlib.Core.List.{List}

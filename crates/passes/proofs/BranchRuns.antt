@@ -24,7 +24,7 @@ use Rattle.passes.specs.Color.{pairsFrom, firstBelow, plainChoice, choos
 use Rattle.passes.specs.Color.{isMember, joined, colored, colorStep, colorTo}
 use Rattle.passes.specs.Contract.{outcomeOf, outAt, outcomeAt, reducedTo, reduced}
 use Rattle.passes.specs.Machine.{Meaning, State, Point, effect, jumps, target, step, ended, onward, stepsTo, EndsIn, Word, onWords}
-use Rattle.passes.specs.Machine.{isCovered, AllCovered, RunsKeepUp}
+use Rattle.passes.specs.Machine.{AllKinds, isCovered, AllCovered, RunsKeepUp}
 use Rattle.passes.proofs.Cases.{loadConst, load, save, label, mem}
 use Rattle.passes.proofs.Lists.{nop, end, uni, branch, branchIf, call, ret}
 use Rattle.passes.proofs.MachineCases.{kinds, word, wordOf, start, digits1, digits2, digits3, digits4, digits5}
@@ -138,7 +138,7 @@ pub record CoveredCases : Type 0 where
   pub not-every : AllCovered (flat (label 7 ∷ nop ∷ call 7 0 ∷ [])) → ⊥
 
 pub covered-cases : CoveredCases
-unfolding AllCovered allBelow recordAt
+unfolding AllKinds allBelow recordAt
 covered-cases = record { of-kinds = refl; every = refl; not-every = λ (h : false ≡ true). clash (cc) }
 
 -- ---- lists that are told apart

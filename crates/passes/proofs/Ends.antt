@@ -13,8 +13,8 @@ use borrow.Author.Tests.{eqb-true, le-leb, lt-leb}
 use Rattle.mir.specs.Records.{records, recordAt, wordAt}
 use Rattle.mir.specs.Shapes.{branch, branchIf}
 use Rattle.mir.proofs.Clash.{clash}
-use Rattle.mir.proofs.Folds.{all-at}
 use Rattle.passes.specs.Machine.{Meaning, State, Point, effect, turn, runTo, run, jumps, step, ended, onward, stepsTo, EndsIn, isStraight, AllStraight}
+use Rattle.passes.proofs.Rows.{kind-at}
 
 pub not-both {ℓ} : {P : Type ℓ} {b : Bool} → b ≡ true → b ≡ false → P
 not-both e f =
@@ -152,8 +152,8 @@ module _ {Value : Type 0} (m : Meaning Value) (list : List ℕ) (start : State V
         ⊎-elim (over-ended list (at n)) (λ (h : at n .at ≡ n). past-ended list (at n) (omega (arith, h))) (at-to n (omega arith) .spot)
 
   pub straight-runs : AllStraight list → (n : ℕ) × (n ≤ records list) × EndsIn m list start n (run m list start)
-  unfolding AllStraight run
+  unfolding run
   straight-runs h =
-      let each = all-at (λ (j : ℕ). isStraight (wordAt (recordAt list j) 0)) (records list) in
-      let e = first-end (records list) (ends (λ i l. each i h l)) in
-      (e .0, e .1, rw (← (at-to (λ i l. each i h l) (records list) (omega arith) .state)) (e .2))
+      let each = kind-at list isStraight h in
+      let e = first-end (records list) (ends each) in
+      (e .0, e .1, rw (← (at-to each (records list) (omega arith) .state)) (e .2))

@@ -21,6 +21,7 @@ use Rattle.mir.specs.Records.{records, recordAt, wordAt, fixedMark}
 use Rattle.mir.specs.Renaming.{produced, renamed, regsTo}
 use Rattle.mir.specs.Shapes.{label, branch, branchIf, row, shapeOf, dests, sources}
 use Rattle.mir.proofs.Clash.{clash}
+use Rattle.mir.proofs.Folds.{last-holds}
 use Rattle.mir.proofs.Passing.{ListPasses}
 use Rattle.passes.specs.Color.{Setup, setup, colorTo, colored, wordsFor, sourceWord}
 use Rattle.passes.specs.Contract.{isKept, outcomeOf, outcomeAt, outAt, reduced}
@@ -29,7 +30,7 @@ use Rattle.passes.specs.Machine.{Meaning, State, Point, effect, turn, ju
 use Rattle.passes.proofs.Assign.{staticIn, numberIn}
 use Rattle.passes.proofs.Create.{names-to, not-fresh}
 use Rattle.passes.proofs.Ends.{straight-goes-on, turn-runs}
-use Rattle.passes.proofs.Landing.{label-kind, place, place-next, kept-record, target-same}
+use Rattle.passes.proofs.Landing.{label-kind, kept, place, place-next, kept-record, target-same}
 use Rattle.passes.proofs.OneRecord.{Same, Running, running-same, Place, reset-after, source-same}
 use Rattle.passes.proofs.Past.{stale-end}
 use Rattle.passes.proofs.Reduced.{same-kind, same-word}
@@ -38,23 +39,6 @@ use Rattle.passes.proofs.Steps.{Stopped, Agree, or-cases, straight-step
 
 abbrev point : {Value : Type 0} → ℕ → State Value → Point Value
 point i st = record { at = i; state = st }
-
--- ---- where a branch goes
-
--- p holds of some number, and so of the last one
-last-holds : (p : ℕ → Bool) (n e : ℕ) → anyBelow n p ≡ true → (getD (lastBelow p n) 0 e < n) × (p (getD (lastBelow p n) 0 e) ≡ true)
-unfolding anyBelow lastBelow
-last-holds p zero e h = clash (cc)
-last-holds p (suc n) e h = go (p n) refl h (last-holds p n e)
-  where
-    Held : ℕ → List ℕ → Type 0
-    Held n l = (getD l 0 e < n) × (p (getD l 0 e) ≡ true)
-
-    go : (b : Bool) → p n ≡ b → (anyBelow n p || b) ≡ true → (anyBelow n p ≡ true → Held n (lastBelow p n)) → Held (suc n) (cond b (n ∷ []) (lastBelow p n))
-    go true q k up = (omega arith, q)
-    go false q k up =
-        let r = up (sym (or-false (anyBelow n p)) ∙ k) in
-        (omega (arith, r .0), r .1)
 
 module _ (s : Settings) (list table : List ℕ) where
   -- the list's run is at a Label
@@ -68,11 +52,11 @@ module _ (s : Settings) (list table : List ℕ) (passes : ListPasses s list tabl
   abbrev u : Setup
   u = setup s list table
 
-  abbrev kept : ℕ → Bool
-  kept i = isKept (outcomeAt (fixedMark s) u i)
+  abbrev stays : ℕ → Bool
+  stays = kept s list table
 
   abbrev to : ℕ → ℕ
-  to = place s list table passes
+  to = place s list table
 
   -- the run of the list has come to p, and the run of the reduced list to q
   pub record Met (p q : Point Value) : Type 0 where
@@ -110,7 +94,7 @@ module _ (s : Settings) (list table : List ℕ) (passes : ListPasses s list tabl
 
     -- the reduced run's next point
     abbrev q-next : Point Value
-    q-next = cond (kept i) (step m (reduced s list table) (point (to i) B)) (point (to i) B)
+    q-next = cond (stays i) (step m (reduced s list table) (point (to i) B)) (point (to i) B)
 
     abbrev Steps : Type 0
     Steps = Meets (step m list (point i A)) q-next
@@ -119,23 +103,23 @@ module _ (s : Settings) (list table : List ℕ) (passes : ListPasses s list tabl
     next-met : {A′ B′ : State Value} (x : ℕ) → x ≡ to (suc i) → Agree s list table (suc i) A′ B′ → Meets (point (suc i) A′) (point x B′)
     next-met x e h = ⊎-elim (λ g. inl (record { spot = e; inside = omega arith; agree = inl g })) (λ g. inr g) h
 
-    goes-on : jumps m rec A ≡ false → (kept i ≡ true → jumps m out B ≡ false) → Agree s list table (suc i) (effect m rec A) (cond (kept i) (effect m out B) B) → Steps
+    goes-on : jumps m rec A ≡ false → (stays i ≡ true → jumps m out B ≡ false) → Agree s list table (suc i) (effect m rec A) (cond (stays i) (effect m out B) B) → Steps
     unfolding step
-    goes-on ja jb h = rw ja (go (kept i) refl h)
+    goes-on ja jb h = rw ja (go (stays i) refl h)
       where
-        go : (b : Bool) → kept i ≡ b → Agree s list table (suc i) (effect m rec A) (cond b (effect m out B) B)
+        go : (b : Bool) → stays i ≡ b → Agree s list table (suc i) (effect m rec A) (cond b (effect m out B) B)
             → Meets (point (suc i) (effect m rec A)) (cond b (step m (reduced s list table) (point (to i) B)) (point (to i) B))
         go true k g =
-            rw (kept-record s list table passes i inside k, jb k)
-            (next-met (suc (to i)) (sym (place-next s list table passes i ∙ rw k (omega arith))) g)
-        go false k g = next-met (to i) (sym (place-next s list table passes i ∙ rw k (omega arith))) g
+            rw (kept-record s list table i inside k, jb k)
+            (next-met (suc (to i)) (sym (place-next s list table i ∙ rw k (omega arith))) g)
+        go false k g = next-met (to i) (sym (place-next s list table i ∙ rw k (omega arith))) g
 
     -- both jump
-    jump : (name : ℕ) → hasLabel list name ≡ true → kept i ≡ true → jumps m rec A ≡ true → jumps m out B ≡ true → labelOf rec ≡ name → labelOf out ≡ name
+    jump : (name : ℕ) → hasLabel list name ≡ true → stays i ≡ true → jumps m rec A ≡ true → jumps m out B ≡ true → labelOf rec ≡ name → labelOf out ≡ name
         → effect m rec A ≡ A → effect m out B ≡ B → A .over ≡ false → B .over ≡ false → Same s list table A B → Steps
     unfolding step
     jump name has k ja jb na nb ea eb a b same =
-        rw (k, kept-record s list table passes i inside k, ja, jb, na, nb, ea, eb) (inl (land name has a b same))
+        rw (k, kept-record s list table i inside k, ja, jb, na, nb, ea, eb) (inl (land name has a b same))
 
     -- ---- a record of a straight kind
 
@@ -144,12 +128,12 @@ module _ (s : Settings) (list table : List ℕ) (passes : ListPasses s list tabl
         goes-on (straight-goes-on m rec A h) (λ k. straight-goes-on m out B (rw (same-kind s list table passes i inside) h))
         (rw (turn-runs m rec A (g .a-runs), turn-runs m out B (g .b-runs)) at turned)
       where
-        turned : Agree s list table (suc i) (turn m rec A) (cond (kept i) (turn m out B) B)
+        turned : Agree s list table (suc i) (turn m rec A) (cond (stays i) (turn m out B) B)
         turned =
             let w = wordAt rec in
             straight-step m here g (w 1) (w 2) (w 3) (w 4) (w 5) (w 6) (w 7) (w 0) h (eight rec (record-length list i inside))
 
-    -- ---- a Label, a Branch and a BranchIf are kept, and leave the state as it is
+    -- ---- a Label, a Branch and a BranchIf are stays, and leave the state as it is
 
     module _ (k : ℕ) (e : kind ≡ k) where
       out-kind : wordAt out 0 ≡ k
@@ -187,7 +171,7 @@ module _ (s : Settings) (list table : List ℕ) (passes : ListPasses s list tabl
       unfolding regsTo renamed dests shapeOf produced
       unread r t h l = omega (arith, stale-end s list table passes i t inside (rw is) (names-to list i .below r t (rw is at h)))
 
-      if-kept : kept i ≡ true
+      if-kept : stays i ≡ true
       unfolding outcomeAt outcomeOf shapeOf
       if-kept = rw if-out
 
@@ -244,7 +228,7 @@ module _ (s : Settings) (list table : List ℕ) (passes : ListPasses s list tabl
             (eight rec (record-length list i inside) ∙ ap (λ (k : ℕ). row k (w 1) (w 2) (w 3) (w 4) (w 5) (w 6) (w 7)) e)
 
   pub meets-next : (p q : Point Value) → Met p q → p .at < records list → isCovered (wordAt (recordAt list (p .at)) 0) ≡ true
-      → Meets (step m list p) (cond (kept (p .at)) (step m (reduced s list table) q) q)
+      → Meets (step m list p) (cond (stays (p .at)) (step m (reduced s list table) q) q)
   meets-next p q met inside h =
-      subst (λ (x : ℕ). Meets (step m list p) (cond (kept (p .at)) (step m (reduced s list table) (point x (q .state))) (point x (q .state)))) (sym (met .spot))
+      subst (λ (x : ℕ). Meets (step m list p) (cond (stays (p .at)) (step m (reduced s list table) (point x (q .state))) (point x (q .state)))) (sym (met .spot))
       (one-step (p .at) inside (p .state) (q .state) (met .agree) h)

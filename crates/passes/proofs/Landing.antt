@@ -16,6 +16,7 @@ use Rattle.mir.specs.Folds.{lastBelow}
 use Rattle.mir.specs.Records.{records, recordAt, wordAt, fixedMark}
 use Rattle.mir.specs.Shapes.{label, shapeOf}
 use Rattle.mir.proofs.Clash.{clash}
+use Rattle.mir.proofs.Folds.{last-same}
 use Rattle.mir.proofs.Passing.{ListPasses}
 use Rattle.mir.proofs.Renaming.{and-both}
 use Rattle.passes.specs.declared.alloc.Outcome.the-variants.{Kept}
@@ -27,22 +28,15 @@ use Rattle.passes.proofs.Reduced.{same-kind, same-word}
 use Rattle.passes.proofs.Rows.{record-early, record-new}
 use Rattle.passes.proofs.Update.{never-falls}
 
--- ---- the last number
-
-last-same : (p q : ℕ → Bool) (n : ℕ) → ((i : ℕ) → i < n → p i ≡ q i) → lastBelow p n ≡ lastBelow q n
-unfolding lastBelow
-last-same p q zero h = refl
-last-same p q (suc n) h = rw (h n (omega arith), last-same p q n (λ i l. h i (omega arith)))
-
 pub label-kind : (name : ℕ) (rec : List ℕ) → isLabel name rec ≡ true → wordAt rec 0 ≡ label
 unfolding isLabel
 label-kind name rec h = eqb-true (wordAt rec 0) label (and-both (eqb (wordAt rec 0) label) (eqb (wordAt rec 1) name) h .0)
 
-module _ (s : Settings) (list table : List ℕ) (passes : ListPasses s list table) where
+module _ (s : Settings) (list table : List ℕ) where
   abbrev u : Setup
   u = setup s list table
 
-  abbrev kept : ℕ → Bool
+  abbrev pub kept : ℕ → Bool
   kept i = isKept (outcomeAt (fixedMark s) u i)
 
   -- how many records are kept before record i
@@ -93,7 +87,7 @@ module _ (s : Settings) (list table : List ℕ) (passes : ListPasses s list tabl
 
   -- ---- the last Label
 
-  module _ (name : ℕ) where
+  module _ (passes : ListPasses s list table) (name : ℕ) where
     -- a Label is put out as it is
     label-same : (i : ℕ) → i < records list → isLabel name (outAt u i) ≡ isLabel name (recordAt list i)
     unfolding isLabel shapeOf
@@ -147,8 +141,8 @@ module _ (s : Settings) (list table : List ℕ) (passes : ListPasses s list tabl
   first-of [] n = refl
   first-of (x ∷ l) n = refl
 
-  pub target-same : (name : ℕ) → target (reduced s list table) name ≡ place (target list name)
+  pub target-same : (passes : ListPasses s list table) (name : ℕ) → target (reduced s list table) name ≡ place (target list name)
   unfolding target reduced
-  target-same name =
+  target-same passes name =
       let n = records list in
-      rw (← place-end, last-to name n (omega arith)) (first-of (lastBelow (labelAt list name) n) n)
+      rw (← place-end, last-to passes name n (omega arith)) (first-of (lastBelow (labelAt list name) n) n)

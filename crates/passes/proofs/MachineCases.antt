@@ -16,7 +16,7 @@ use Rattle.mir.specs.Records.{recordAt, fixedMark}
 use Rattle.mir.proofs.Clash.{clash}
 use Rattle.mir.proofs.Records.{flat}
 use Rattle.passes.specs.Machine.{Meaning, State, write, store, effect, turn, runTo, run, Word, onWords}
-use Rattle.passes.specs.Machine.{isScalar, AllScalar, isStraight, AllStraight, EndsEqual, RunsEqual}
+use Rattle.passes.specs.Machine.{AllKinds, isScalar, AllScalar, isStraight, AllStraight, EndsEqual, RunsEqual}
 use Rattle.passes.proofs.Cases.{loadConst, load, save, mov, label, stack, mem}
 use Rattle.passes.proofs.Lists.{nop, end, uni, bi, fused, ifElse, loadComplex, saveComplex, complexBi, loadMath, loadConstMath, param, ret, temp, left, right}
 
@@ -226,7 +226,7 @@ pub record ScalarCases : Type 0 where
   pub not-every : AllScalar (flat (nop ∷ label 7 ∷ end ∷ [])) → ⊥
 
 pub scalar-cases : ScalarCases
-unfolding AllScalar allBelow recordAt
+unfolding AllKinds allBelow recordAt
 scalar-cases = record { of-kinds = refl; every = refl; not-every = λ (h : false ≡ true). clash (cc) }
 
 pub record StraightCases : Type 0 where
@@ -238,7 +238,7 @@ pub record StraightCases : Type 0 where
   pub not-every : AllStraight (flat (nop ∷ loadComplex 0 1 mem 0 ∷ label 7 ∷ [])) → ⊥
 
 pub straight-cases : StraightCases
-unfolding AllStraight allBelow recordAt
+unfolding AllKinds allBelow recordAt
 straight-cases = record { of-kinds = refl; every = refl; not-every = λ (h : false ≡ true). clash (cc) }
 
 -- ---- what is equal at the end

@@ -57,6 +57,24 @@ module _ (s : Settings) (list table : List ℕ) where
   pub running-same : {Value : Type 0} {i : ℕ} {A B : State Value} → Running i A B → Same A B
   running-same g = record { named = g .sim .named; const = g .sim .const; cells = g .sim .cells }
 
+  -- where no colour holds a location, and no register a static that is still to be read, that is enough
+  pub from-same : {Value : Type 0} {i : ℕ} {A B : State Value} → A .over ≡ false → B .over ≡ false → Same A B → colorTo (setup s list table) i .allocs ≡ blank
+      → ((r t : ℕ) → staticIn (regsTo list i) r ≡ Static t → i ≤ numberIn (endsOf list) t → ⊥) → Running i A B
+  from-same a b same bare unread =
+      record {
+        a-runs = a;
+        b-runs = b;
+        sim =
+            record {
+              named = same .named;
+              const = same .const;
+              cells = same .cells;
+              regs = λ r t e l. absurd (unread r t e l);
+              held = λ c l k e. absurd (no-location c l (rw bare at e));
+            };
+        live = record { of = λ r t e l. absurd (unread r t e l) };
+      }
+
 -- record i of a list that passes, and what the definitions have there
 pub record Place : Type 0 where
   pub s : Settings
@@ -206,20 +224,4 @@ module _ (p : Place) (none : dests (rec p) ≡ []) where
   -- and resets them: no colour holds a location, and no register a static that is still to be read
   pub reset-after : {Value : Type 0} {A B : State Value} → shapeFor (rec p) .action ≡ action.Clear → A .over ≡ false → B .over ≡ false → Same (p .s) (p .list) (p .table) A B
       → ((r t : ℕ) → staticIn (regsTo (p .list) (suc (p .i))) r ≡ Static t → suc (p .i) ≤ numberIn (endsOf (p .list)) t → ⊥) → After p A B
-  reset-after {Value} {A} {B} clears a b same unread =
-      record {
-        a-runs = a;
-        b-runs = b;
-        sim =
-            record {
-              named = same .named;
-              const = same .const;
-              cells = same .cells;
-              regs = λ r t e l. absurd (unread r t e l);
-              held = λ c l k e. absurd (no-location c l (rw emptied at e));
-            };
-        live = record { of = λ r t e l. absurd (unread r t e l) };
-      }
-    where
-      emptied : next p .allocs ≡ blank
-      emptied = updated-allocs ∙ rw clears
+  reset-after clears a b same unread = from-same (p .s) (p .list) (p .table) a b same (updated-allocs ∙ rw clears) unread

@@ -12,7 +12,6 @@ use native.Mathlib.Omega.{arith}
 use Rattle.mir.specs.declared.config.Settings.{Settings}
 use Rattle.mir.specs.Records.{records, recordAt, wordAt, fixedMark}
 use Rattle.mir.specs.Renaming.{regsTo}
-use Rattle.mir.proofs.Folds.{all-at, all-each}
 use Rattle.mir.proofs.Passing.{ListPasses, list-passes}
 use Rattle.passes.specs.Color.{setup, colorTo}
 use Rattle.passes.specs.Contract.{isKept, outcomeAt, reduced, countTo}
@@ -21,10 +20,10 @@ use Rattle.passes.specs.Machine.{isScalar, AllScalar, isStraight, AllStr
 use Rattle.passes.proofs.Create.{not-fresh}
 use Rattle.passes.proofs.Ends.{not-both, runs, over-ended, past-ended, onward-ended, onward-runs, first-end, ends-once, straight-runs}
 use Rattle.passes.proofs.Jumps.{Met, Meets, meets-next}
-use Rattle.passes.proofs.Landing.{place-end, kept-inside}
-use Rattle.passes.proofs.Locations.{no-location}
-use Rattle.passes.proofs.OneRecord.{Same, Running, running-same}
+use Rattle.passes.proofs.Landing.{kept, place-end, kept-inside}
+use Rattle.passes.proofs.OneRecord.{Same, Running, running-same, from-same}
 use Rattle.passes.proofs.Reduced.{same-kind, reduced-holds}
+use Rattle.passes.proofs.Rows.{kind-at, all-kinds, more-kinds}
 use Rattle.passes.proofs.Steps.{ends-equal}
 
 module _ (s : Settings) (list table : List ℕ) (passes : ListPasses s list table) {Value : Type 0} (m : Meaning Value) (start : State Value) where
@@ -41,20 +40,7 @@ module _ (s : Settings) (list table : List ℕ) (passes : ListPasses s list tabl
   meet-first = go (start .over) refl
     where
       running : start .over ≡ false → Running s list table zero start start
-      running h =
-          record {
-            a-runs = h;
-            b-runs = h;
-            sim =
-                record {
-                  named = λ r l. refl;
-                  const = λ k. refl;
-                  cells = λ p x q. refl;
-                  regs = λ r t q l. absurd (not-fresh r t q);
-                  held = λ c l q f. absurd (no-location c l f);
-                };
-            live = record { of = λ r t q l. absurd (not-fresh r t q) };
-          }
+      running h = from-same s list table h h (record { named = λ r l. refl; const = λ k. refl; cells = λ p x q. refl }) refl (λ r t q l. not-fresh r t q)
 
       go : (b : Bool) → start .over ≡ b → MeetAt (first start) (first start)
       go false h = inl (record { spot = refl; inside = omega arith; agree = inl (running h) })
@@ -73,12 +59,12 @@ module _ (s : Settings) (list table : List ℕ) (passes : ListPasses s list tabl
     met-next p q met l =
         let g = agree-runs met in
         let r = meets-next s list table passes m p q met l (covered (p .at) l) in
-        rw (onward-runs m list p (runs list p (g .0) l)) (go (isKept (outcomeAt (fixedMark s) (setup s list table) (p .at))) refl r)
+        rw (onward-runs m list p (runs list p (g .0) l)) (go (kept s list table (p .at)) refl r)
       where
-        go : (b : Bool) → isKept (outcomeAt (fixedMark s) (setup s list table) (p .at)) ≡ b → MeetAt (step m list p) (cond b (step m out q) q)
+        go : (b : Bool) → kept s list table (p .at) ≡ b → MeetAt (step m list p) (cond b (step m out q) q)
             → MeetAt (step m list p) q ⊎ MeetAt (step m list p) (onward m out q)
         go true k r =
-            let inside : q .at < records out = rw (met .spot) (kept-inside s list table passes (p .at) l k) in
+            let inside : q .at < records out = rw (met .spot) (kept-inside s list table (p .at) l k) in
             inr (rw (onward-runs m out q (runs out q (agree-runs met .1) inside)) r)
         go false k r = inl r
 
@@ -107,7 +93,7 @@ module _ (s : Settings) (list table : List ℕ) (passes : ListPasses s list tabl
         go (yes l) = not-both h (runs list p (agree-runs g .0) l)
         go (no l) =
             let e : p .at ≡ records list = omega (arith, l, g .inside) in
-            let f : q .at ≡ records out = g .spot ∙ rw e (place-end s list table passes) in
+            let f : q .at ≡ records out = g .spot ∙ rw e (place-end s list table) in
             (past-ended out q (omega (arith, f)), ends-equal s list table (agree-runs g .2))
 
     keeps-up-with : (n : ℕ) (z : State Value) → EndsIn m list start n z → KeepsUp s m out start n z
@@ -125,10 +111,9 @@ module _ (s : Settings) (list table : List ℕ) (passes : ListPasses s list tabl
 
 pub keeps-up : (s : Settings) (list table : List ℕ) → Passing s list table → AllCovered list → {Value : Type 0} (m : Meaning Value) (start : State Value)
     (n : ℕ) (z : State Value) → EndsIn m list start n z → KeepsUp s m (reduced s list table) start n z
-unfolding Passing AllCovered
+unfolding Passing
 keeps-up s list table passing covered m start =
-    keeps-up-with s list table (list-passes true s list table passing) m start
-    (λ i l. all-at (λ (j : ℕ). isCovered (wordAt (recordAt list j) 0)) (records list) i covered l)
+    keeps-up-with s list table (list-passes true s list table passing) m start (kind-at list isCovered covered)
 
 -- over words, as section 5 and the requests have it
 pub runs-keep-up : (s : Settings) (list table : List ℕ) → Passing s list table → AllCovered list → RunsKeepUp s list (reduced s list table)
@@ -138,19 +123,13 @@ runs-keep-up s list table passing covered U B F X Y J = keeps-up s list table pa
 
 -- the reduced list has them alone where the list does
 still-straight : (s : Settings) (list table : List ℕ) → ListPasses s list table → AllStraight list → AllStraight (reduced s list table)
-unfolding AllStraight
 still-straight s list table passes h =
-    let kind : List ℕ → ℕ = λ rec. wordAt rec 0 in
-    let each = all-at (λ (j : ℕ). isStraight (kind (recordAt list j))) (records list) in
-    all-each (λ (k : ℕ). isStraight (kind (recordAt (reduced s list table) k))) (records (reduced s list table))
-    (reduced-holds s list table (λ (rec : List ℕ). isStraight (kind rec) ≡ true)
-    (λ i l. rw (same-kind s list table passes i l) (each i h l)))
+    all-kinds (reduced s list table) isStraight
+    (reduced-holds s list table (λ (rec : List ℕ). isStraight (wordAt rec 0) ≡ true)
+    (λ i l. rw (same-kind s list table passes i l) (kind-at list isStraight h i l)))
 
 straight-covered : (list : List ℕ) → AllStraight list → AllCovered list
-unfolding AllStraight AllCovered
-straight-covered list h =
-    let kind : ℕ → ℕ = λ j. wordAt (recordAt list j) 0 in
-    all-each (λ j. isCovered (kind j)) (records list) (λ j l. rw (all-at (λ (n : ℕ). isStraight (kind n)) (records list) j h l))
+straight-covered list = more-kinds list isStraight isCovered (λ k h. rw h)
 
 pub preserved : (s : Settings) (list table : List ℕ) → Passing s list table → AllStraight list → {Value : Type 0} (m : Meaning Value) (start : State Value)
     → EndsEqual s (run m list start) (run m (reduced s list table) start)
@@ -172,11 +151,5 @@ list-preserved s list table passing =
     record { straight = runs-equal s list table passing; branches = runs-keep-up s list table passing }
 
 -- a list of scalar straight-line kinds, document 01's, is among them
-scalar-kind : (k : ℕ) → isScalar k ≡ true → isStraight k ≡ true
-scalar-kind k h = rw h
-
 pub scalar-is-straight : (list : List ℕ) → AllScalar list → AllStraight list
-unfolding AllScalar AllStraight
-scalar-is-straight list h =
-    let kind : ℕ → ℕ = λ j. wordAt (recordAt list j) 0 in
-    all-each (λ j. isStraight (kind j)) (records list) (λ j l. scalar-kind (kind j) (all-at (λ (n : ℕ). isScalar (kind n)) (records list) j h l))
+scalar-is-straight list = more-kinds list isScalar isStraight (λ k h. rw h)

@@ -1,6 +1,7 @@
--- The records of a list that goes on: those of its beginning, and then the new one.
--- By the laws of the first and the other words of a list.
+-- The records of a list that goes on: those of its beginning, and then the new one; and lists whose records are all of some kinds.
+-- By the laws of the first and the other words of a list, and of each number below a count.
 use Prim.Native.Nat.{ℕ, _+_, _*_, _≤_, _<_}
+use mathlib.Core.Bool.{Bool, true}
 use mathlib.Core.List.{List, _++_}
 use mathlib.Core.Path.{_≡_, sym, _∙_}
 use native.Mathlib.Omega.{arith}
@@ -8,7 +9,9 @@ use lib.ListN.{length, drop, length-drop}
 use lib.Seq.{take-append-le, drop-append-le, drop-at, take-all}
 use Rattle.mir.specs.Records.{records, recordAt, wordAt}
 use Rattle.mir.specs.Shapes.{row}
+use Rattle.mir.proofs.Folds.{all-at, all-each}
 use Rattle.mir.proofs.Records.{words-at}
+use Rattle.passes.specs.Machine.{AllKinds}
 
 pub record-early : (xs ys : List ℕ) (j : ℕ) → j * 8 + 8 ≤ length xs → recordAt (xs ++ ys) j ≡ recordAt xs j
 unfolding recordAt
@@ -30,3 +33,17 @@ record-length list i l = lib.Seq.length-take-le 8 (drop (i * 8) list) (rw length
 pub eight : (l : List ℕ) → length l ≡ 8
     → l ≡ row (wordAt l 0) (wordAt l 1) (wordAt l 2) (wordAt l 3) (wordAt l 4) (wordAt l 5) (wordAt l 6) (wordAt l 7)
 eight l h = sym (take-all 8 l (omega arith)) ∙ words-at l 8 0 (omega arith)
+
+-- ---- the kinds of a list's records
+
+module _ (list : List ℕ) (p : ℕ → Bool) where
+  pub kind-at : AllKinds p list → (i : ℕ) → i < records list → p (wordAt (recordAt list i) 0) ≡ true
+  unfolding AllKinds
+  kind-at h i l = all-at (λ (j : ℕ). p (wordAt (recordAt list j) 0)) (records list) i h l
+
+  pub all-kinds : ((i : ℕ) → i < records list → p (wordAt (recordAt list i) 0) ≡ true) → AllKinds p list
+  unfolding AllKinds
+  all-kinds h = all-each (λ (j : ℕ). p (wordAt (recordAt list j) 0)) (records list) h
+
+pub more-kinds : (list : List ℕ) (p q : ℕ → Bool) → ((k : ℕ) → p k ≡ true → q k ≡ true) → AllKinds p list → AllKinds q list
+more-kinds list p q more h = all-kinds list q (λ i l. more (wordAt (recordAt list i) 0) (kind-at list p h i l))

@@ -183,22 +183,26 @@ onWords U B F X Y J =
 abbrev pub isScalar : ℕ → Bool
 isScalar kind = leb kind 6 || eqb kind 9 || eqb kind 13 || eqb kind 14 || eqb kind 18 || eqb kind 19
 
-unfoldable pub AllScalar : List ℕ → Type 0
-AllScalar list = allBelow (records list) (λ i. isScalar (wordAt (recordAt list i) 0)) ≡ true
+-- every record of a list is of one of some kinds
+unfoldable pub AllKinds : (ℕ → Bool) → List ℕ → Type 0
+AllKinds isOne list = allBelow (records list) (λ i. isOne (wordAt (recordAt list i) 0)) ≡ true
+
+abbrev pub AllScalar : List ℕ → Type 0
+AllScalar = AllKinds isScalar
 
 -- straight kinds, those that demand 3 covers: the scalar ones, and with request 1 also 7, 8 and 20
 abbrev pub isStraight : ℕ → Bool
 isStraight kind = isScalar kind || eqb kind 7 || eqb kind 8 || eqb kind 20
 
-unfoldable pub AllStraight : List ℕ → Type 0
-AllStraight list = allBelow (records list) (λ i. isStraight (wordAt (recordAt list i) 0)) ≡ true
+abbrev pub AllStraight : List ℕ → Type 0
+AllStraight = AllKinds isStraight
 
 -- the kinds that request 10 covers, all but 10 to 12: the straight ones, Label, Branch and BranchIf
 abbrev pub isCovered : ℕ → Bool
 isCovered kind = isStraight kind || eqb kind label || eqb kind branch || eqb kind branchIf
 
-unfoldable pub AllCovered : List ℕ → Type 0
-AllCovered list = allBelow (records list) (λ i. isCovered (wordAt (recordAt list i) 0)) ≡ true
+abbrev pub AllCovered : List ℕ → Type 0
+AllCovered = AllKinds isCovered
 
 -- the list passes section 7, with these settings and this table and with buffers that are long enough
 unfoldable pub Passing : Settings → List ℕ → List ℕ → Type 0

@@ -5,7 +5,7 @@ use borrow.Author.Needs.{needs}
 use borrow.Author.Tests.{eq-eqb, ne-eqb}
 use denote.Ref.{now}
 use Rattle.mir.specs.Branches.{isBranch, labelOf}
-use Rattle.mir.proofs.Targets.{word-is, kind-is}
+use Rattle.mir.proofs.Records.{word-is, kind-is}
 use Rattle.mir.proofs.branches.target_at.Statement.{statement}
 use Rattle.mir.proofs.branches.target_at.Tie as tie
 
