@@ -1,4 +1,4 @@
--- `allBelow`, `anyBelow`, `lastBelow` and `firstRefusal` as a loop meets them: nothing passed, one more, the first that fails, the end.
+-- `allBelow`, `anyBelow` and `firstRefusal` as a loop meets them: nothing passed, one more, the first that fails, the end.
 -- By induction on the count; the code's `n + 1` is the definitions' `suc n`.
 use Prim.Native.Nat.{ℕ, zero, suc, _+_, _<_, _≤_}
 use mathlib.Core.Bool.{Bool, true, false, cond, not, _&&_, _||_, and-false, and-true, and-assoc, or-true, or-false}
@@ -13,8 +13,7 @@ use lib.Seq.{take-suc, getD-drop}
 use borrow.Author.Tests.{not-true, not-false}
 use Rattle.mir.specs.declared.questions.Verdict.{Verdict}
 use Rattle.mir.specs.declared.questions.Verdict.the-variants.{Passed, Refused}
-use Rattle.mir.specs.Folds.{allBelow, anyBelow, lastBelow, all, refusedAt, orElse, firstRefusal}
-use Rattle.mir.proofs.Clash.{clash}
+use Rattle.mir.specs.Folds.{allBelow, anyBelow, all, refusedAt, orElse, firstRefusal}
 
 -- n < suc m: below m, or m itself
 pub below-suc : {n m : ℕ} → n < suc m → (n < m) ⊎ (n ≡ m)
@@ -113,26 +112,6 @@ module _ (p q : ℕ → Bool) where
       go : (b : Bool) → p n ≡ b → (anyBelow n p || b) ≡ true → (anyBelow n p ≡ true → anyBelow n q ≡ true) → (anyBelow n q || q n) ≡ true
       go true e t up = rw (h n (omega arith) e) (or-true (anyBelow n q))
       go false e t up = rw (up (sym (or-false (anyBelow n p)) ∙ t))
-
-  pub last-same : (n : ℕ) → ((j : ℕ) → j < n → p j ≡ q j) → lastBelow p n ≡ lastBelow q n
-  unfolding lastBelow
-  last-same zero h = refl
-  last-same (suc n) h = rw (h n (omega arith), last-same n (λ j l. h j (omega arith)))
-
--- p holds of some number, and so of the last one
-pub last-holds : (p : ℕ → Bool) (n e : ℕ) → anyBelow n p ≡ true → (getD (lastBelow p n) 0 e < n) × (p (getD (lastBelow p n) 0 e) ≡ true)
-unfolding anyBelow lastBelow
-last-holds p zero e h = clash (cc)
-last-holds p (suc n) e h = go (p n) refl h (last-holds p n e)
-  where
-    Held : ℕ → List ℕ → Type 0
-    Held n l = (getD l 0 e < n) × (p (getD l 0 e) ≡ true)
-
-    go : (b : Bool) → p n ≡ b → (anyBelow n p || b) ≡ true → (anyBelow n p ≡ true → Held n (lastBelow p n)) → Held (suc n) (cond b (n ∷ []) (lastBelow p n))
-    go true q k up = (omega arith, q)
-    go false q k up =
-        let r = up (sym (or-false (anyBelow n p)) ∙ k) in
-        (omega (arith, r .0), r .1)
 
 -- a test that a function answers, and the branch on its answer
 pub answered-no : {r b : Bool} → r ≡ b → not r ≡ true → b ≡ false

@@ -21,7 +21,6 @@ use Rattle.mir.specs.Records.{records, recordAt, wordAt, fixedMark}
 use Rattle.mir.specs.Renaming.{produced, renamed, regsTo}
 use Rattle.mir.specs.Shapes.{label, branch, branchIf, row, shapeOf, dests, sources}
 use Rattle.mir.proofs.Clash.{clash}
-use Rattle.mir.proofs.Folds.{last-holds}
 use Rattle.mir.proofs.Passing.{ListPasses}
 use Rattle.passes.specs.Color.{Setup, setup, colorTo, colored, wordsFor, sourceWord}
 use Rattle.passes.specs.Contract.{isKept, outcomeOf, outcomeAt, outAt, reduced}
@@ -30,7 +29,7 @@ use Rattle.passes.specs.Machine.{Meaning, State, Point, effect, turn, ju
 use Rattle.passes.proofs.Assign.{staticIn, numberIn}
 use Rattle.passes.proofs.Create.{names-to, not-fresh}
 use Rattle.passes.proofs.Ends.{straight-goes-on, turn-runs}
-use Rattle.passes.proofs.Landing.{label-kind, kept, place, place-next, kept-record, target-same}
+use Rattle.passes.proofs.Landing.{last-holds, label-kind, kept, place, place-next, kept-record, target-same}
 use Rattle.passes.proofs.OneRecord.{Same, Running, running-same, Place, reset-after, source-same}
 use Rattle.passes.proofs.Past.{stale-end}
 use Rattle.passes.proofs.Reduced.{same-kind, same-word}

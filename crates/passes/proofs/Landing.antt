@@ -2,21 +2,20 @@
 -- the last Label with a number.
 -- By induction on the records: what was put out stays where it is, and a Label is kept as it is.
 use Prim.Native.Nat.{ℕ, zero, suc, _+_, _-_, _*_, _≤_, _<_}
-use mathlib.Core.Bool.{Bool, true, false, cond, _&&_}
+use mathlib.Core.Bool.{Bool, true, false, cond, _&&_, _||_, or-false}
 use mathlib.Core.List.{List, [], _∷_, _++_, map, append-nil}
 use mathlib.Core.Logic.{inr}
-use mathlib.Core.Path.{_≡_, refl, ap, _∙_}
+use mathlib.Core.Path.{_≡_, refl, sym, ap, _∙_}
 use native.Mathlib.Omega.{arith}
 use lib.Dec.{eqb}
 use lib.ListN.{length, getD}
 use borrow.Author.Tests.{eqb-true}
 use Rattle.mir.specs.declared.config.Settings.{Settings}
 use Rattle.mir.specs.Branches.{isLabel, labelAt}
-use Rattle.mir.specs.Folds.{lastBelow}
+use Rattle.mir.specs.Folds.{anyBelow, lastBelow}
 use Rattle.mir.specs.Records.{records, recordAt, wordAt, fixedMark}
 use Rattle.mir.specs.Shapes.{label, shapeOf}
 use Rattle.mir.proofs.Clash.{clash}
-use Rattle.mir.proofs.Folds.{last-same}
 use Rattle.mir.proofs.Passing.{ListPasses}
 use Rattle.mir.proofs.Renaming.{and-both}
 use Rattle.passes.specs.declared.alloc.Outcome.the-variants.{Kept}
@@ -27,6 +26,28 @@ use Rattle.passes.proofs.Lengths.{out-length, kept-next, reduced-length
 use Rattle.passes.proofs.Reduced.{same-kind, same-word}
 use Rattle.passes.proofs.Rows.{record-early, record-new}
 use Rattle.passes.proofs.Update.{never-falls}
+
+-- ---- the last number
+
+last-same : (p q : ℕ → Bool) (n : ℕ) → ((j : ℕ) → j < n → p j ≡ q j) → lastBelow p n ≡ lastBelow q n
+unfolding lastBelow
+last-same p q zero h = refl
+last-same p q (suc n) h = rw (h n (omega arith), last-same p q n (λ j l. h j (omega arith)))
+
+-- p holds of some number, and so of the last one
+pub last-holds : (p : ℕ → Bool) (n e : ℕ) → anyBelow n p ≡ true → (getD (lastBelow p n) 0 e < n) × (p (getD (lastBelow p n) 0 e) ≡ true)
+unfolding anyBelow lastBelow
+last-holds p zero e h = clash (cc)
+last-holds p (suc n) e h = go (p n) refl h (last-holds p n e)
+  where
+    Held : ℕ → List ℕ → Type 0
+    Held n l = (getD l 0 e < n) × (p (getD l 0 e) ≡ true)
+
+    go : (b : Bool) → p n ≡ b → (anyBelow n p || b) ≡ true → (anyBelow n p ≡ true → Held n (lastBelow p n)) → Held (suc n) (cond b (n ∷ []) (lastBelow p n))
+    go true q k up = (omega arith, q)
+    go false q k up =
+        let r = up (sym (or-false (anyBelow n p)) ∙ k) in
+        (omega (arith, r .0), r .1)
 
 pub label-kind : (name : ℕ) (rec : List ℕ) → isLabel name rec ≡ true → wordAt rec 0 ≡ label
 unfolding isLabel
