@@ -16,8 +16,8 @@
  *
  *   rudzaviks_survey                                       1,024
  *   rudzaviks_optimize, the list being refused            18,432
- *   rudzaviks_optimize, 4,096 records or 65,536           34,816
- *   rudzaviks_reduce                                      92,160
+ *   rudzaviks_optimize, 4,096 records or 65,536           27,648
+ *   rudzaviks_reduce                                      84,992
  */
 #ifndef RUDZAVIKS_H
 #define RUDZAVIKS_H

@@ -1,16 +1,21 @@
-//! Times the original and the port on the same lists, and prints four tables of both: of `optimize`
-//! by the length of a list, by the number of its registers, and, where half of the records are
-//! branches, by its labels; and of `survey`, which is the original's `used_registers` and
-//! `populate_labels` together.
+//! Times the original and the port on the same lists, and prints three tables of both: of `optimize`
+//! by kinds, registers, length and locations, and, where half of the records are branches, by its
+//! labels; and of `survey`, which is the original's `used_registers` and `populate_labels` together.
 //!
 //! `cargo run --release --offline --example bench`, in importer/. Timed is the work on lists that
 //! are prepared: the unchanged original's on its own form of the list, and the port's C entry on
 //! words and buffers, which it finds as the run before left them. The port puts its questions; the
 //! original has none. Each run takes as many lists as make 65,536 records, first by one and then by
-//! the other; a time is the median of the runs, for one list. A list that left the oracle runs is
+//! the other; a time is the median of the runs, for one record. A list that left the oracle runs is
 //! timed like any other; the port is to leave as many records as the amended copy.
+//!
+//! With the word `instructions` it has valgrind count those of the port, for the rows of the first
+//! table: each row is run by this program again, with `once` and the row's number.
 
+use std::env;
+use std::fs;
 use std::hint::black_box;
+use std::process::{id, Command};
 use std::time::{Duration, Instant};
 
 use harness::answers::Survey;
@@ -25,9 +30,8 @@ use rudzaviks::ffi::{optimize_word, survey_word, Buffers};
 
 const LENGTHS: [usize; 4] = [64, 512, 4_096, 65_536];
 
-/// Numbers of registers, and the length of a list for them. The other tables have FEW.
+/// Numbers of registers. The other tables have FEW.
 const REGISTERS: [u32; 3] = [FEW, 32, 64];
-const LENGTH: usize = 4_096;
 const FEW: u32 = 14;
 
 const KINDS: [(&str, bool); 2] = [("all", false), ("scalar straight-line", true)];
@@ -45,6 +49,40 @@ fn lists(records: usize, scalar: bool, cells: u32, count_regs: u32) -> Vec<List>
     let profile = Profile { settings, cells, ..Profile::plain(records) };
     let profile = if scalar { profile.scalar() } else { profile };
     (0..RECORDS / records).map(|_| list(&mut random, &profile)).collect()
+}
+
+/// The lists of one row of the first table.
+struct Row {
+    kinds: &'static str,
+    scalar: bool,
+    count_regs: u32,
+    records: usize,
+    locations: &'static str,
+    cells: u32,
+}
+
+impl Row {
+    fn all() -> Vec<Row> {
+        let mut rows = Vec::new();
+        for (kinds, scalar) in KINDS {
+            for count_regs in REGISTERS {
+                for records in LENGTHS {
+                    for (locations, cells) in [("few", 3), ("many", records as u32)] {
+                        rows.push(Row { kinds, scalar, count_regs, records, locations, cells });
+                    }
+                }
+            }
+        }
+        rows
+    }
+
+    fn lists(&self) -> Vec<List> {
+        lists(self.records, self.scalar, self.cells, self.count_regs)
+    }
+
+    fn columns(&self) -> String {
+        format!("{} | {} | {} | {}", self.kinds, self.count_regs, self.records, self.locations)
+    }
 }
 
 /// How the numbers of the labels are chosen: one after the other, any, and so that a table has one
@@ -96,7 +134,7 @@ fn median(mut times: Vec<Duration>) -> Duration {
     times[times.len() / 2]
 }
 
-/// The median times of both ways, taken in turn, for one list, in microseconds.
+/// The median times of both ways, taken in turn, for one record, in nanoseconds.
 fn medians(lists: &[List], mut ways: [&mut dyn FnMut() -> Duration; 2]) -> [f64; 2] {
     let mut times = [Vec::new(), Vec::new()];
     for _ in 0..RUNS {
@@ -104,14 +142,18 @@ fn medians(lists: &[List], mut ways: [&mut dyn FnMut() -> Duration; 2]) -> [f64;
             times.push(way());
         }
     }
-    times.map(|times| median(times).as_secs_f64() * 1e6 / lists.len() as f64)
+    let records: usize = lists.iter().map(|list| list.words.len() / WORDS).sum();
+    times.map(|times| median(times).as_secs_f64() * 1e9 / records as f64)
+}
+
+fn buffers(lists: &[List]) -> Vec<Buffers> {
+    lists.iter().map(|list| Buffers::new(list.words.len(), list.table.len())).collect()
 }
 
 fn optimize_times(lists: &[List]) -> [f64; 2] {
     let expected: Vec<u64> =
         lists.iter().map(|list| run::optimize(list).len() as u64 / 8).collect();
-    let new = |list: &List| Buffers::new(list.words.len(), list.table.len());
-    let mut buffers: Vec<Buffers> = lists.iter().map(new).collect();
+    let mut buffers = buffers(lists);
     let mut port = || {
         let (time, answers) = time_port(lists, &mut buffers);
         assert!(answers == expected, "the port leaves other records than it is to leave");
@@ -157,26 +199,45 @@ fn print_row(columns: &str, [original, port]: [f64; 2]) {
     println!("| {columns} | {original:.1} | {port:.1} | {:.2} |", port / original);
 }
 
-/// Lists of this length and number of registers; the row begins with one of the two.
-fn print_optimize(first: &str, kinds: (&str, bool), records: usize, count_regs: u32) {
-    for (locations, cells) in [("few", 3), ("many", records as u32)] {
-        let times = optimize_times(&lists(records, kinds.1, cells, count_regs));
-        print_row(&format!("{first} | {} | {locations}", kinds.0), times);
+/// The port's instructions for all lists of a row, as valgrind counts them in its C entry.
+fn instructions(row: usize) -> u64 {
+    let out = env::temp_dir().join(format!("bench-{}.callgrind", id()));
+    let this = env::current_exe().expect("the path of this program");
+    let run = Command::new("valgrind")
+        .args(["--tool=callgrind", "--toggle-collect=rudzaviks_optimize", "--quiet"])
+        .arg(format!("--callgrind-out-file={}", out.display()))
+        .arg(this)
+        .args(["once", &row.to_string()])
+        .status()
+        .expect("valgrind is there");
+    assert!(run.success(), "row {row} under valgrind");
+    let text = fs::read_to_string(&out).expect("what valgrind wrote");
+    fs::remove_file(&out).expect("a file of our own");
+    let totals = text.lines().find_map(|line| line.strip_prefix("totals: "));
+    totals.and_then(|totals| totals.trim().parse().ok()).expect("a line with the total")
+}
+
+fn print_instructions() {
+    println!("| kinds | registers | records | locations | instructions a record |");
+    println!("|---|--:|--:|---|--:|");
+    for (at, row) in Row::all().iter().enumerate() {
+        println!("| {} | {:.0} |", row.columns(), instructions(at) as f64 / RECORDS as f64);
     }
 }
 
-fn main() {
-    println!("| records | kinds | locations | original, µs | port, µs | port / original |");
-    println!("|--:|---|---|--:|--:|--:|");
-    for kinds in KINDS {
-        LENGTHS.iter().for_each(|len| print_optimize(&len.to_string(), kinds, *len, FEW));
-    }
-    println!("\n| registers | kinds | locations | original, µs | port, µs | port / original |");
-    println!("|--:|---|---|--:|--:|--:|");
-    for kinds in KINDS {
-        REGISTERS.iter().for_each(|regs| print_optimize(&regs.to_string(), kinds, LENGTH, *regs));
-    }
-    println!("\n| records | labels | numbers | original, µs | port, µs | port / original |");
+/// The port alone, once.
+fn run_once(row: &Row) {
+    let lists = row.lists();
+    black_box(time_port(&lists, &mut buffers(&lists)));
+}
+
+fn print_times() {
+    println!(
+        "| kinds | registers | records | locations | original, ns | port, ns | port / original |"
+    );
+    println!("|---|--:|--:|---|--:|--:|--:|");
+    Row::all().iter().for_each(|row| print_row(&row.columns(), optimize_times(&row.lists())));
+    println!("\n| records | labels | numbers | original, ns | port, ns | port / original |");
     println!("|--:|--:|---|--:|--:|--:|");
     for labels in LABELS {
         for (how, number) in NUMBERS {
@@ -184,12 +245,22 @@ fn main() {
             print_row(&format!("{RECORDS} | {labels} | {how}"), times);
         }
     }
-    println!("\n| records | kinds | original's pair, µs | survey, µs | survey / pair |");
+    println!("\n| records | kinds | original's pair, ns | survey, ns | survey / pair |");
     println!("|--:|---|--:|--:|--:|");
     for (kinds, scalar) in KINDS {
         for records in LENGTHS {
             let times = survey_times(&lists(records, scalar, 3, FEW));
             print_row(&format!("{records} | {kinds}"), times);
         }
+    }
+}
+
+fn main() {
+    let words: Vec<String> = env::args().skip(1).collect();
+    match words.iter().map(String::as_str).collect::<Vec<_>>()[..] {
+        [] => print_times(),
+        ["instructions"] => print_instructions(),
+        ["once", row] => run_once(&Row::all()[row.parse::<usize>().expect("a row's number")]),
+        _ => panic!("usage: bench [instructions]"),
     }
 }

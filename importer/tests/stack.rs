@@ -19,8 +19,8 @@ use rudzaviks::ffi::{optimize_word, reduce_word, survey_word, Buffers, PARTS};
 /// What the documents state, in bytes.
 const SURVEY: usize = 1_024;
 const REFUSED: usize = 18_432;
-const REDUCED: usize = 34_816;
-const FILE: usize = 92_160;
+const REDUCED: usize = 27_648;
+const FILE: usize = 84_992;
 
 /// The least stack that a thread may have, and a page.
 const LEAST: usize = 16_384;

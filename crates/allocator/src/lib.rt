@@ -5,7 +5,7 @@ ghost use Rattle.walks.specs.Lent.{lent};
 ghost use Rattle.allocator.specs.Optimize.{Optimized, roomFor};
 use mir::config::Settings;
 use mir::questions::Verdict;
-use mir::questions::check;
+use questions::check;
 use walks::Counts;
 use walks::reduce;
 

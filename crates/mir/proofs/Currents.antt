@@ -4,13 +4,20 @@ use Prim.Native.Nat.{ℕ, _<_}
 use mathlib.Core.List.{List}
 use mathlib.Core.Path.{_≡_, sym, ap, _∙_}
 use native.Mathlib.Omega.{arith}
-use lib.ListN.{length, getD, set, List·getD-map}
+use lib.ListN.{length, getD, set, length-map, List·getD-map}
 use borrow.Author.Tests.{ne-eqb}
 use Rattle.mir.specs.declared.rename.Current.{Current}
 use Rattle.mir.specs.declared.rename.Current.the-variants.{Static, Unset}
 use Rattle.mir.specs.Inner.{currentIn, currentsIn}
+use Rattle.mir.specs.Records.{maxRegs}
+use Rattle.mir.specs.Renaming.{regsTo}
 use Rattle.mir.specs.Shapes.{any}
 use Rattle.mir.proofs.Passing.{getD-any, map-set}
+use Rattle.mir.proofs.Renaming.{regs-length}
+
+-- there are as many words as registers
+pub words-length : (words list : List ℕ) (i : ℕ) → currentsIn words ≡ regsTo list i → length words ≡ maxRegs
+words-length words list i e = sym (length-map words currentIn) ∙ (ap length e ∙ regs-length list i)
 
 -- what a register's word says is what the register holds
 pub current-read : (words : List ℕ) (r : ℕ) {c : Current} → r < length words → c ≡ currentIn (getD words r 0) → getD (currentsIn words) r Unset ≡ c

@@ -11,4 +11,3 @@ pub mod Records
 pub mod Renaming
 pub mod Shapes
 pub mod Surveys
-pub mod Targets

@@ -12,14 +12,14 @@ use Rattle.mir.specs.declared.config.Settings.{Settings}
 use Rattle.mir.specs.declared.questions.Verdict.the-variants.{Passed, Refused}
 use Rattle.mir.specs.declared.rename.Current.{Current}
 use Rattle.mir.specs.Branches.{pastTo}
-use Rattle.mir.specs.Folds.{all, firstNo, refusedAt, orElse}
-use Rattle.mir.specs.Questions.{fewRegisters, fewArgs, wellSized, knownKind, fieldsFit, genFits, gensFit, partnerFits, sourcesNamed, sourcesSince}
+use Rattle.mir.specs.Folds.{all, allBelow, firstNo, refusedAt, orElse}
+use Rattle.mir.specs.Questions.{fewRegisters, fewArgs, wellSized, knownKind, wordFits, wordsFit, fieldsFit, genFits, gensFit, partnerFits, sourcesNamed, sourcesSince}
 use Rattle.mir.specs.Questions.{shapeNo, recordNo, recordBy, recordRefusal, lands, branchBy, branchRefusal, sizesRefusal, refusal}
 use Rattle.mir.specs.Records.{isGen, maxRegs, records, recordAt}
 use Rattle.mir.specs.Renaming.{regsTo}
-use Rattle.mir.specs.Shapes.{registers}
+use Rattle.mir.specs.Shapes.{shapeFor, registers}
 use Rattle.mir.proofs.Clash.{clash}
-use Rattle.mir.proofs.Folds.{both-passed, none-refused, refusal-none}
+use Rattle.mir.proofs.Folds.{all-at, both-passed, none-refused, refusal-none}
 use Rattle.mir.proofs.Renaming.{and-both}
 
 -- ---- numbered answers
@@ -48,6 +48,11 @@ first-stops ((n, true) ∷ qs) rest h = first-stops qs rest h
 first-stops ((n, false) ∷ qs) rest h = refl
 
 -- ---- a record
+
+-- each word of a record that question 6 passes is at most what its shape says
+pub word-fits : (table rec : List ℕ) → fieldsFit table rec ≡ true → (p : ℕ) → p < 8 → leb (getD rec p 0) (getD (shapeFor rec .most) p 0) ≡ true
+unfolding fieldsFit wordsFit
+word-fits table rec h p l = all-at (wordFits rec (shapeFor rec .most)) 8 p (and-both (allBelow 8 (wordFits rec (shapeFor rec .most))) _ h .0) l
 
 module _ (table : List ℕ) (countRegs : ℕ) (rec : List ℕ) where
   abbrev shapeAsked : List (ℕ × Bool)

@@ -1,18 +1,22 @@
--- The renaming of section 2: how many statics there can be, and that the Gen registers of a record that fits are below the count.
+-- The renaming of section 2: how many statics there can be, that the Gen registers of a record that fits are below the count, and
+-- that the registers keep their number.
 -- By induction on the records, a record making at most two statics; and by the register words, destinations before sources.
 use Prim.Native.Nat.{ℕ, zero, suc, _+_, _*_, _≤_, _<_}
-use mathlib.Core.Bool.{Bool, true, false, cond, _&&_}
+use mathlib.Core.Bool.{Bool, true, false, cond, _&&_, _||_}
 use mathlib.Core.List.{List, [], _∷_, _++_}
 use mathlib.Core.Path.{_≡_, refl, sym, _∙_}
 use native.Mathlib.Omega.{arith}
-use lib.ListN.{length, take, drop, length-take}
+use lib.Dec.{eqb}
+use lib.ListN.{length, take, drop, set, length-take, length-set}
 use lib.Seq.{take-add, drop-drop}
 use borrow.Author.Tests.{ltb-true, lt-ltb}
+use Rattle.mir.specs.declared.rename.Current.{Current}
+use Rattle.mir.specs.declared.rename.Current.the-variants.{Static}
 use Rattle.mir.specs.Folds.{all}
 use Rattle.mir.specs.Questions.{genFits, gensFit}
-use Rattle.mir.specs.Records.{isGen, recordAt, wordAt}
-use Rattle.mir.specs.Renaming.{one, gens, staticsTo}
-use Rattle.mir.specs.Shapes.{shapeFor, dests, sources, registers}
+use Rattle.mir.specs.Records.{isGen, recordAt, wordAt, maxRegs}
+use Rattle.mir.specs.Renaming.{fresh, one, produce, gens, produced, renamed, staticsTo, regsTo}
+use Rattle.mir.specs.Shapes.{shapeFor, call, label, dests, sources, registers}
 use Rattle.mir.proofs.Folds.{all-append}
 use Rattle.mir.proofs.Shapes.{two-dests}
 
@@ -77,3 +81,23 @@ module _ (n : ℕ) (rec : List ℕ) (fit : gensFit n rec ≡ true) where
 
   pub dests-below : {x y : ℕ} → dests rec ≡ x ∷ y ∷ [] → (x < 256 → x < n) × (y < 256 → y < n)
   dests-below {x} {y} e = fits-two n x y (rw e at (gens-fit-both n rec fit .0))
+
+-- ---- the registers keep their number
+
+produced-length : (ws : List ℕ) (m : ℕ) (regs : List Current) → length (produced ws m regs) ≡ length regs
+unfolding produced
+produced-length [] m regs = refl
+produced-length (w ∷ ws) m regs = produced-length ws (m + one w) (produce w m regs) ∙ go (isGen w)
+  where
+    go : (b : Bool) → length (cond b (set regs w (Static m)) regs) ≡ length regs
+    go true = length-set regs w (Static m)
+    go false = refl
+
+pub regs-length : (list : List ℕ) (i : ℕ) → length (regsTo list i) ≡ maxRegs
+unfolding regsTo renamed
+regs-length list zero = refl
+regs-length list (suc i) = go (eqb (wordAt (recordAt list i) 0) call || eqb (wordAt (recordAt list i) 0) label) (regs-length list i)
+  where
+    go : (b : Bool) → length (regsTo list i) ≡ maxRegs → length (cond b fresh (produced (dests (recordAt list i)) (staticsTo list i) (regsTo list i))) ≡ maxRegs
+    go true h = refl
+    go false h = produced-length (dests (recordAt list i)) (staticsTo list i) (regsTo list i) ∙ h

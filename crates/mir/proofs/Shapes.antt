@@ -76,7 +76,7 @@ by-kind p h b k = go (decLt k 21)
         rw (List·getD-eq-default shapes bare q) (b k)
 
 -- a rule that is an order of numbers and does not speak of the kind
-rule : (left right : Shape → ℕ) → T (each-from (λ n s. leb (left s) (right s)) 0 shapes) → T (leb (left bare) (right bare))
+pub rule : (left right : Shape → ℕ) → T (each-from (λ n s. leb (left s) (right s)) 0 shapes) → T (leb (left bare) (right bare))
     → (k : ℕ) → left (shapeOf k) ≤ right (shapeOf k)
 rule left right h b k = leb→le _ _ (by-kind (λ n s. leb (left s) (right s)) h (λ n. b) k)
 

@@ -1,5 +1,4 @@
 // Records, the questions put to a list before it is reduced, and what stands beside the passes (the Rust's mir.rs).
-pub mod branches;
 pub mod config;
 pub mod questions;
 pub mod record;

@@ -1,8 +1,6 @@
-// The questions before reducing (document 01, section 7).
+// The questions that are asked of the lengths and of each record (document 01, section 7); crate questions asks them all.
 
-use crate::branches::check_branches;
 use crate::config::MAX_REGS;
-use crate::config::Settings;
 use crate::record::record_at;
 use crate::rename::Current;
 use crate::rename::UNSET;
@@ -20,7 +18,7 @@ ghost use lib.Dec.{eqb};
 ghost use lib.ListN.{length, take, drop};
 ghost use Rattle.mir.specs.Folds.{all, firstNo};
 ghost use Rattle.mir.specs.Inner.{currentsIn};
-ghost use Rattle.mir.specs.Questions.{wellSized, wordsFit, pairsFit, fieldsFit, genFits, gensFit, partnerFits, named, sourcesNamed, since, sourcesSince, shapeNo, recordNo, recordRefusal, sizesRefusal, refusal};
+ghost use Rattle.mir.specs.Questions.{wellSized, wordsFit, pairsFit, fieldsFit, genFits, gensFit, partnerFits, named, sourcesNamed, since, sourcesSince, shapeNo, recordNo, recordRefusal, sizesRefusal};
 ghost use Rattle.mir.specs.Records.{wordAt, maxRegs};
 ghost use Rattle.mir.specs.Shapes.{branchIf};
 
@@ -31,7 +29,7 @@ pub enum Verdict {
 }
 
 // Question 3, of the lengths.
-fn well_sized(list: usize, table: usize) -> bool
+pub fn well_sized(list: usize, table: usize) -> bool
     ensures { λ r. ⌜ r ≡ wellSized list table ⌝ }
 {
     if list % 8 != 0 {
@@ -155,9 +153,10 @@ pub fn check_shape(rec: [u32; 8], table: &[u32], count_regs: u32) -> u32
 
 // Questions 9 and 15, of one source word: 9 where it is a Gen without a static, 15 where its static is one of the `past` that were
 // written before a BranchIf, else 0.
-fn check_source(regs: [u32; MAX_REGS], past: u32, w: u32) -> u32
+fn check_source(regs: &[u32; MAX_REGS], past: u32, w: u32) -> u32
+    requires { ⌜ length (now regs) ≡ maxRegs ⌝ }
     requires { ⌜ (w < 256 → w < maxRegs) ⌝ }
-    ensures { λ r. ⌜ r ≡ firstNo ((9, named (currentsIn regs) w) ∷ (15, since past (currentsIn regs) w) ∷ []) ⌝ }
+    ensures { λ r. ⌜ r ≡ firstNo ((9, named (currentsIn (now (regs .entry))) w) ∷ (15, since past (currentsIn (now (regs .entry))) w) ∷ []) ⌝ }
 {
     if 256 <= w {
         return 0;
@@ -172,15 +171,16 @@ fn check_source(regs: [u32; MAX_REGS], past: u32, w: u32) -> u32
 
 // Questions 9 and 15, of the `count` source words from `from` on: a 9 comes before every 15.
 fn check_source_words(
-    regs: [u32; MAX_REGS],
+    regs: &[u32; MAX_REGS],
     past: u32,
     rec: [u32; 8],
     from: usize,
     count: usize,
 ) -> u32
+    requires { ⌜ length (now regs) ≡ maxRegs ⌝ }
     requires { ⌜ from + count ≤ 8 ⌝ }
     requires { ⌜ all (genFits maxRegs) (take count (drop from rec)) ≡ true ⌝ }
-    ensures { λ r. ⌜ r ≡ firstNo ((9, all (named (currentsIn regs)) (take count (drop from rec))) ∷ (15, all (since past (currentsIn regs)) (take count (drop from rec))) ∷ []) ⌝ }
+    ensures { λ r. ⌜ r ≡ firstNo ((9, all (named (currentsIn (now (regs .entry)))) (take count (drop from rec))) ∷ (15, all (since past (currentsIn (now (regs .entry)))) (take count (drop from rec))) ∷ []) ⌝ }
 {
     let mut late = 0;
     let mut j = 0;
@@ -198,9 +198,10 @@ fn check_source_words(
 }
 
 // Questions 9 and 15.
-fn check_sources(regs: [u32; MAX_REGS], past: u32, rec: [u32; 8]) -> u32
+fn check_sources(regs: &[u32; MAX_REGS], past: u32, rec: [u32; 8]) -> u32
+    requires { ⌜ length (now regs) ≡ maxRegs ⌝ }
     requires { ⌜ gensFit maxRegs rec ≡ true ⌝ }
-    ensures { λ r. ⌜ r ≡ firstNo ((9, sourcesNamed (currentsIn regs) rec) ∷ (15, sourcesSince past (currentsIn regs) rec) ∷ []) ⌝ }
+    ensures { λ r. ⌜ r ≡ firstNo ((9, sourcesNamed (currentsIn (now (regs .entry))) rec) ∷ (15, sourcesSince past (currentsIn (now (regs .entry))) rec) ∷ []) ⌝ }
 {
     let s = shape_of(rec[0]);
     let from = s.regs + s.dsts;
@@ -213,11 +214,12 @@ fn check_record(
     rec: [u32; 8],
     table: &[u32],
     count_regs: u32,
-    regs: [u32; MAX_REGS],
+    regs: &[u32; MAX_REGS],
     past: u32,
 ) -> u32
+    requires { ⌜ length (now regs) ≡ maxRegs ⌝ }
     requires { ⌜ «count_regs» ≤ maxRegs ⌝ }
-    ensures { λ r. ⌜ r ≡ recordNo (now (table .entry)) «count_regs» (currentsIn regs) past rec ⌝ }
+    ensures { λ r. ⌜ r ≡ recordNo (now (table .entry)) «count_regs» (currentsIn (now (regs .entry))) past rec ⌝ }
 {
     let by = check_shape(rec, table, count_regs);
     if by != 0 {
@@ -245,28 +247,6 @@ pub fn check_sizes(list: usize, table: usize, count_regs: u32, room: bool) -> Ve
     Verdict::Passed
 }
 
-// All questions; `room` is the answer to question 4, which the operation that lends the buffers gives.
-pub fn check(list: &[u32], table: &[u32], settings: Settings, room: bool) -> Verdict
-    ensures { λ r. ⌜ r ≡ refusal room settings (now (list .entry)) (now (table .entry)) ⌝ }
-{
-    if MAX_REGS < settings.count_regs as usize {
-        return Verdict::Refused(1, 0);
-    }
-    if 65_535 < settings.args {
-        return Verdict::Refused(2, 0);
-    }
-    if !well_sized(list.len(), table.len()) {
-        return Verdict::Refused(3, 0);
-    }
-    if !room {
-        return Verdict::Refused(4, 0);
-    }
-    match check_records(list, table, settings.count_regs) {
-        Verdict::Passed => check_branches(list),
-        Verdict::Refused(number, index) => Verdict::Refused(number, index),
-    }
-}
-
 // How many statics were written before the last BranchIf, once a record has been passed; `statics` were there before it.
 fn past_after(rec: [u32; 8], statics: u32, past: u32) -> u32
     ensures { λ r. ⌜ r ≡ cond (eqb (wordAt rec 0) branchIf) statics past ⌝ }
@@ -275,7 +255,7 @@ fn past_after(rec: [u32; 8], statics: u32, past: u32) -> u32
 }
 
 // Questions 5 to 9 and 15, record by record.
-fn check_records(list: &[u32], table: &[u32], count_regs: u32) -> Verdict
+pub fn check_records(list: &[u32], table: &[u32], count_regs: u32) -> Verdict
     requires { ⌜ «count_regs» ≤ maxRegs ⌝ }
     requires { ⌜ wellSized (length (now list)) (length (now table)) ≡ true ⌝ }
     ensures { λ r. ⌜ r ≡ recordRefusal (now (table .entry)) «count_regs» (now (list .entry)) ⌝ }
@@ -287,12 +267,11 @@ fn check_records(list: &[u32], table: &[u32], count_regs: u32) -> Verdict
     let mut i = 0;
     while i < n {
         let rec = record_at(list, i);
-        let by = check_record(rec, table, count_regs, regs, past);
+        let by = check_record(rec, table, count_regs, &regs, past);
         if by != 0 {
             return Verdict::Refused(by, i as u32);
         }
-        let next = rename(regs, rec, statics);
-        regs = next;
+        rename(&mut regs, rec, statics);
         past = past_after(rec, statics, past);
         statics += count_statics(rec);
         i += 1;

@@ -19,8 +19,8 @@ pub enum Current {
     Unset,
 }
 
-// The word of a register without a static. Which static each register holds goes from function to function by value, and an
-// array of words is copied several times as fast as one of enums.
+// The word of a register without a static. Which static each register holds is lent from function to function as plain words; the
+// enum is made where one is looked at.
 pub const UNSET: u32 = 4_294_967_295;
 
 // What the word of a register says.
@@ -42,17 +42,15 @@ pub fn count_static(w: u32) -> u32
 }
 
 // A written Gen register takes the static `next`.
-fn produce(regs: [u32; MAX_REGS], w: u32, next: u32) -> [u32; MAX_REGS]
+fn produce(regs: &mut [u32; MAX_REGS], w: u32, next: u32)
     requires { ⌜ (w < 256 → w < maxRegs) ⌝ }
     requires { ⌜ next < any ⌝ }
-    ensures { λ r. ⌜ currentsIn r ≡ Rattle.mir.specs.Renaming.produce w next (currentsIn regs) ⌝ }
+    ensures { λ _. ⌜ currentsIn (now (regs .exit)) ≡ Rattle.mir.specs.Renaming.produce w next (currentsIn (now (regs .entry))) ⌝ }
 {
-    let mut out = regs;
     if w < 256 {
         let r = w as usize;
-        out[r] = next;
+        regs[r] = next;
     }
-    out
 }
 
 // How many statics a record makes.
@@ -67,27 +65,36 @@ pub fn count_statics(rec: [u32; 8]) -> u32
 }
 
 // The registers after the destinations of a record; its first new static is `next`.
-fn produce_all(regs: [u32; MAX_REGS], rec: [u32; 8], next: u32) -> [u32; MAX_REGS]
+fn produce_all(regs: &mut [u32; MAX_REGS], rec: [u32; 8], next: u32)
     requires { ⌜ gensFit maxRegs rec ≡ true ⌝ }
     requires { ⌜ next + 1 < any ⌝ }
-    ensures { λ r. ⌜ currentsIn r ≡ produced (dests rec) next (currentsIn regs) ⌝ }
+    ensures { λ _. ⌜ currentsIn (now (regs .exit)) ≡ produced (dests rec) next (currentsIn (now (regs .entry))) ⌝ }
 {
     match dests_of(rec) {
-        Dests::Nothing => regs,
-        Dests::One(x) => produce(regs, x, next),
-        Dests::Two(x, y) => produce(produce(regs, x, next), y, next + count_static(x)),
+        Dests::Nothing => {}
+        Dests::One(x) => {
+            produce(regs, x, next);
+        }
+        Dests::Two(x, y) => {
+            produce(regs, x, next);
+            produce(regs, y, next + count_static(x));
+        }
     }
 }
 
 // The registers after a record.
-pub fn rename(regs: [u32; MAX_REGS], rec: [u32; 8], next: u32) -> [u32; MAX_REGS]
+pub fn rename(regs: &mut [u32; MAX_REGS], rec: [u32; 8], next: u32)
     requires { ⌜ gensFit maxRegs rec ≡ true ⌝ }
     requires { ⌜ next + 1 < any ⌝ }
-    ensures { λ r. ⌜ currentsIn r ≡ renamed rec next (currentsIn regs) ⌝ }
+    ensures { λ _. ⌜ currentsIn (now (regs .exit)) ≡ renamed rec next (currentsIn (now (regs .entry))) ⌝ }
 {
     let kind = rec[0];
     match kind {
-        CALL | LABEL => [UNSET; MAX_REGS],
-        _ => produce_all(regs, rec, next),
+        CALL | LABEL => {
+            *regs = [UNSET; MAX_REGS];
+        }
+        _ => {
+            produce_all(regs, rec, next);
+        }
     }
 }

@@ -257,6 +257,13 @@ module _ (list : List ℕ) (i : ℕ) where
       let f = getD-append-add after (replicate k i) (s - staticsTo list i) 0 in
       rw e (f ∙ getD-replicate k (s - staticsTo list i) i 0 (omega arith))
 
+  -- a record moves an older static's end to itself, or leaves it
+  ends-moved : (s : ℕ) → s < staticsTo list i → (getD (endsTo list (suc i)) s 0 ≡ i) ⊎ (getD (endsTo list (suc i)) s 0 ≡ getD (endsTo list i) s 0)
+  unfolding after
+  ends-moved s h =
+      ⊎-elim (λ (a : getD after s 0 ≡ i). inl (ends-old s h ∙ a)) (λ (a : getD after s 0 ≡ getD (endsTo list i) s 0). inr (ends-old s h ∙ a))
+      (consumed-cases (regsTo list i) i (sources (recordAt list i)) (endsTo list i) s)
+
   -- every end lies behind the next record
   new-or-old : (s : ℕ) → (s < staticsTo list i) ⊎ (staticsTo list i ≤ s)
   new-or-old s = go (decLt s (staticsTo list i))
@@ -266,20 +273,18 @@ module _ (list : List ℕ) (i : ℕ) where
       go (no h) = inr (omega (arith, h))
 
   ends-below-next : ((s : ℕ) → s < staticsTo list i → getD (endsTo list i) s 0 < i) → (s : ℕ) → s < staticsTo list (suc i) → getD (endsTo list (suc i)) s 0 < suc i
-  unfolding after
   ends-below-next up s l =
       ⊎-elim
       (λ (h : s < staticsTo list i).
-      ⊎-elim (λ (a : getD after s 0 ≡ i). omega (arith, ends-old s h, a)) (λ (a : getD after s 0 ≡ getD (endsTo list i) s 0). omega (arith, ends-old s h, a, up s h))
-      (consumed-cases (regsTo list i) i (sources (recordAt list i)) (endsTo list i) s))
+      ⊎-elim (λ (a : getD (endsTo list (suc i)) s 0 ≡ i). omega (arith, a)) (λ (a : getD (endsTo list (suc i)) s 0 ≡ getD (endsTo list i) s 0). omega (arith, a, up s h))
+      (ends-moved s h))
       (λ (h : staticsTo list i ≤ s). omega (arith, ends-new s h l)) (new-or-old s)
 
   -- ends never fall
   ends-grow : ((s : ℕ) → s < staticsTo list i → getD (endsTo list i) s 0 < i) → (s : ℕ) → s < staticsTo list i → getD (endsTo list i) s 0 ≤ getD (endsTo list (suc i)) s 0
-  unfolding after
   ends-grow up s h =
-      ⊎-elim (λ (a : getD after s 0 ≡ i). omega (arith, ends-old s h, a, up s h)) (λ (a : getD after s 0 ≡ getD (endsTo list i) s 0). omega (arith, ends-old s h, a))
-      (consumed-cases (regsTo list i) i (sources (recordAt list i)) (endsTo list i) s)
+      ⊎-elim (λ (a : getD (endsTo list (suc i)) s 0 ≡ i). omega (arith, a, up s h)) (λ (a : getD (endsTo list (suc i)) s 0 ≡ getD (endsTo list i) s 0). omega (arith, a))
+      (ends-moved s h)
 
   -- record i reads s: its end is i then
   ends-read : (w s : ℕ) → In w (sources (recordAt list i)) → isGen w ≡ true → getD (regsTo list i) w Unset ≡ Static s → getD (endsTo list (suc i)) s 0 ≡ i
@@ -326,6 +331,30 @@ read-end list i w s l m g e =
     let f = ends-mono list k (suc i) s (omega (arith, h, statics-grow list i)) in
     rw (← n) (omega (arith, f, ends-read list i w s m g e))
 
+-- an end stays as it is before record i, or it is i or beyond
+ends-later : (list : List ℕ) (k i s : ℕ) → s < staticsTo list i
+    → (getD (endsTo list (k + i)) s 0 ≡ getD (endsTo list i) s 0) ⊎ (i ≤ getD (endsTo list (k + i)) s 0)
+ends-later list zero i s h = rw native.Mathlib.Nat.zero-add (inl refl)
+ends-later list (suc k) i s h = rw native.Mathlib.Nat.suc-add (go (ends-later list k i s h) (ends-moved list (k + i) s (omega (arith, statics-mono list k i))))
+  where
+    go : (getD (endsTo list (k + i)) s 0 ≡ getD (endsTo list i) s 0) ⊎ (i ≤ getD (endsTo list (k + i)) s 0)
+        → (getD (endsTo list (suc (k + i))) s 0 ≡ k + i) ⊎ (getD (endsTo list (suc (k + i))) s 0 ≡ getD (endsTo list (k + i)) s 0)
+        → (getD (endsTo list (suc (k + i))) s 0 ≡ getD (endsTo list i) s 0) ⊎ (i ≤ getD (endsTo list (suc (k + i))) s 0)
+    go up (inl e) = inr (omega (arith, e))
+    go (inl f) (inr e) = inl (e ∙ f)
+    go (inr f) (inr e) = inr (omega (arith, e, f))
+
+-- a static that was there before record i, and that ends at i, is read there
+pub read-last : (list : List ℕ) (i s : ℕ) → i < records list → s < staticsTo list i → getD (endsOf list) s 0 ≡ i → Unread list i s → ⊥
+unfolding endsOf
+read-last list i s l h e unread =
+    let k = records list - suc i in
+    let n : k + suc i ≡ records list = omega arith in
+    let stays = ends-stay list i s h unread in
+    let later = rw n at (ends-later list k (suc i) s (omega (arith, h, statics-grow list i))) in
+    ⊎-elim (λ (f : getD (endsTo list (records list)) s 0 ≡ getD (endsTo list (suc i)) s 0). omega (arith, e, f, stays, ends-below list i s h))
+    (λ (f : suc i ≤ getD (endsTo list (records list)) s 0). omega (arith, e, f)) later
+
 -- a static that no register holds after record i ended by then
 gone : (list : List ℕ) (k i s : ℕ) → s < staticsTo list i → ((r : ℕ) → getD (regsTo list i) r Unset ≡ Static s → ⊥)
     → ((r : ℕ) → getD (regsTo list (k + i)) r Unset ≡ Static s → ⊥) × (getD (endsTo list (k + i)) s 0 ≡ getD (endsTo list i) s 0)
@@ -362,23 +391,3 @@ module _ (list : List ℕ) (i s : ℕ) (known : s < staticsTo list (suc i)) (unr
       let k = records list - suc i in
       let n : k + suc i ≡ records list = omega arith in
       rw (← n) (omega (arith, unread-to k (omega arith), ends-below list (suc i) s known))
-
--- ---- the registers keep their number
-
-produced-length : (ws : List ℕ) (m : ℕ) (regs : List Current) → length (produced ws m regs) ≡ length regs
-unfolding produced
-produced-length [] m regs = refl
-produced-length (w ∷ ws) m regs = produced-length ws (m + one w) (produce w m regs) ∙ go (isGen w)
-  where
-    go : (b : Bool) → length (cond b (set regs w (Static m)) regs) ≡ length regs
-    go true = length-set regs w (Static m)
-    go false = refl
-
-pub regs-length : (list : List ℕ) (i : ℕ) → length (regsTo list i) ≡ maxRegs
-unfolding regsTo renamed
-regs-length list zero = refl
-regs-length list (suc i) = go (eqb (wordAt (recordAt list i) 0) call || eqb (wordAt (recordAt list i) 0) label) (regs-length list i)
-  where
-    go : (b : Bool) → length (regsTo list i) ≡ maxRegs → length (cond b fresh (produced (dests (recordAt list i)) (staticsTo list i) (regsTo list i))) ≡ maxRegs
-    go true h = refl
-    go false h = produced-length (dests (recordAt list i)) (staticsTo list i) (regsTo list i) ∙ h

@@ -21,6 +21,8 @@ pub mod Reduced
 pub mod Pigeon
 pub mod Pool
 pub mod NeverEmpty
+-- a colour becomes free at a source
+pub mod Due
 pub mod SameColours
 -- demand 3
 pub mod Ends

@@ -89,7 +89,7 @@ module _ (l : Loc) (x y : ℕ) (allocs : List Alloc) where
   update-length action.Other h = h
 
 -- a blank colour has no life and no location
-blank-at : (k c : ℕ) → getD (replicate k (alloc 0 Nothing)) c (alloc 0 Nothing) ≡ alloc 0 Nothing
+pub blank-at : (k c : ℕ) → getD (replicate k (alloc 0 Nothing)) c (alloc 0 Nothing) ≡ alloc 0 Nothing
 blank-at zero c = refl
 blank-at (suc k) zero = refl
 blank-at (suc k) (suc c) = blank-at k c
@@ -134,7 +134,7 @@ saved-holds w l allocs c k e = go (isGen w) e
         (λ (a : colourAt (set (clear l allocs) w new) c ≡ colourAt (clear l allocs) c). old (sym (ap (λ (j : Alloc). j .loc) a) ∙ q))
         (set-cases (clear l allocs) w new (alloc 0 Nothing) c)
 
-blank-nothing : (c : ℕ) → colourAt blank c .loc ≡ Nothing
+pub blank-nothing : (c : ℕ) → colourAt blank c .loc ≡ Nothing
 blank-nothing c = ap (λ (a : Alloc). a .loc) (blank-at maxRegs c)
 
 pub no-location : (c : ℕ) (l : Loc) → colourAt blank c .loc ≡ At l → ⊥

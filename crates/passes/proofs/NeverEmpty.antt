@@ -1,7 +1,7 @@
 -- `pool-never-empty`: for every list that passes, of any kinds, each choice that section 3 makes, but for a found one, has
 -- a colour in its pool.
 -- By induction on the records, with `walk` for the destinations of each; a reset only lowers lives.
-use Prim.Native.Nat.{ℕ, zero, suc, _+_, _≤_, _<_}
+use Prim.Native.Nat.{ℕ, zero, suc, _+_, _-_, _≤_, _<_}
 use mathlib.Core.Bool.{Bool, true, false, cond, _||_}
 use mathlib.Core.List.{List, [], _∷_, map}
 use mathlib.Core.Logic.{_⊎_, ⊎-elim}
@@ -22,7 +22,7 @@ use Rattle.mir.specs.Renaming.{fresh, gens, produced, renamed, staticsTo, regsT
 use Rattle.mir.specs.Shapes.{call, label, shapeOf, shapeFor, dests, sources}
 use Rattle.mir.proofs.Clash.{clash}
 use Rattle.mir.proofs.Passing.{ListPasses, list-passes}
-use Rattle.mir.proofs.Renaming.{gens-fit-both}
+use Rattle.mir.proofs.Renaming.{gens-fit-both, regs-length}
 use Rattle.passes.specs.declared.alloc.Alloc.{Alloc}
 use Rattle.passes.specs.declared.alloc.Held.{Held}
 use Rattle.passes.specs.Color.{Setup, setup, Coloring, colourAt, wanted, sourceWord, updateAllocs, locOf, HavePools, afterDests}
@@ -30,7 +30,7 @@ use Rattle.passes.specs.Color.{sourcesAt, destsAt, colorStep, colorTo}
 use Rattle.passes.specs.Create.{endsOf}
 use Rattle.passes.specs.Machine.{Passing}
 use Rattle.passes.proofs.Actions.{same-action}
-use Rattle.passes.proofs.Create.{In, all-in, names-to, not-fresh, gone-end, regs-length}
+use Rattle.passes.proofs.Create.{In, all-in, names-to, not-fresh, gone-end}
 use Rattle.passes.proofs.Pool.{Owner, Owned, Below, words, Before, After, walk}
 use Rattle.passes.proofs.Locations.{update-life, update-length, blank-life}
 
@@ -80,10 +80,10 @@ module _ (list : List ℕ) (i : ℕ) where
       go true f = absurd (not-fresh r s f)
       go false f = f
 
--- what is known before record i
+-- what is known before record i; a colour that is needed beyond the record before it has an owner
 pub record Ready (u : Setup) (i : ℕ) : Type 0 where
   pub next : length (colorTo u i .colours) ≡ staticsTo (u .list) i
-  pub owned : Owned (u .count) i (u .ends) (regsTo (u .list) i) (colorTo u i .colours) (colorTo u i .allocs)
+  pub owned : Owned (u .count) (i - 1) (u .ends) (regsTo (u .list) i) (colorTo u i .colours) (colorTo u i .allocs)
   pub enough : length (colorTo u i .allocs) ≡ maxRegs
   pub below : Below (u .count) (colorTo u i .colours)
 
@@ -109,11 +109,12 @@ module _ (s : Settings) (list table : List ℕ) (passes : ListPasses s list tabl
   left-behind t h g = gone-end list i t l h (λ r e. g r (regs-after list i r t e))
 
   before : Ready (setup s list table) i → BeforeAt s list table i
+  unfolding Owned
   before ready =
       record {
         next = ready .next;
         names = names-to list i;
-        owned = ready .owned;
+        owned = λ c l p. ready .owned c l (omega arith);
         fit = rw wanted-words dests-fit;
         gone = rw wanted-words left-behind;
         wide = rw regs-length (passes .few);

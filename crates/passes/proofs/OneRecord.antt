@@ -18,6 +18,7 @@ use Rattle.mir.specs.Renaming.{produced, staticsTo, regsTo}
 use Rattle.mir.specs.Shapes.{shapeFor, dests, sources}
 use Rattle.mir.proofs.Clash.{clash}
 use Rattle.mir.proofs.Passing.{ListPasses}
+use Rattle.mir.proofs.Renaming.{regs-length}
 use Rattle.passes.specs.declared.alloc.Alloc.{Alloc}
 use Rattle.passes.specs.declared.alloc.Held.{Held}
 use Rattle.passes.specs.declared.symbol.Loc.{Loc}
@@ -27,7 +28,7 @@ use Rattle.passes.specs.Contract.{isBeyond, readSet}
 use Rattle.passes.specs.Create.{endsOf}
 use Rattle.passes.specs.Machine.{State}
 use Rattle.passes.proofs.Assign.{Live, SimIn, staticIn, numberIn}
-use Rattle.passes.proofs.Create.{In, read-end, regs-length}
+use Rattle.passes.proofs.Create.{In, read-end}
 use Rattle.passes.proofs.Locations.{no-location}
 use Rattle.passes.proofs.NeverEmpty.{regs-next, before-of, wanted-words, source-static, source-below}
 use Rattle.passes.proofs.Pool.{words}

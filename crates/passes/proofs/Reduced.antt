@@ -20,7 +20,7 @@ use Rattle.mir.specs.Renaming.{regsTo}
 use Rattle.mir.specs.Records.{records, recordAt, wordAt, isGen, maxRegs, fixedMark}
 use Rattle.mir.specs.Shapes.{reg, loadArgs, shapeOf, shapeFor, dests, sources, registers}
 use Rattle.mir.proofs.Folds.{all-at, all-each, all-append, all-words, below-suc}
-use Rattle.mir.proofs.Passing.{ListPasses, list-passes}
+use Rattle.mir.proofs.Passing.{ListPasses, list-passes, word-fits}
 use Rattle.mir.proofs.Renaming.{and-both}
 use Rattle.mir.proofs.Shapes.{regs-in-record, regs-after-kind, register-limit, args-bare}
 use Rattle.passes.specs.declared.alloc.Alloc.{Alloc}
@@ -157,10 +157,8 @@ module _ (s : Settings) (list table : List ℕ) (passes : ListPasses s list tabl
 
   -- each register word of the record is at most 259
   register-fits : (p : ℕ) → shape .regs ≤ p → p < shape .regs + (shape .dsts + shape .srcs) → getD rec p 0 ≤ reg
-  unfolding fieldsFit wordsFit
   register-fits p h l =
-      let q = and-both (allBelow 8 (wordFits rec (shape .most))) _ (passes .each i inside .shape .fields) .0 in
-      let f = all-at (wordFits rec (shape .most)) 8 p q (omega (arith, regs-in-record (wordAt rec 0))) in
+      let f = word-fits table rec (passes .each i inside .shape .fields) p (omega (arith, regs-in-record (wordAt rec 0))) in
       leb-true (getD rec p 0) reg (rw (register-limit (wordAt rec 0) p h l) at f)
 
   limited-from : (from count : ℕ) → shape .regs ≤ from → from + count ≤ shape .regs + (shape .dsts + shape .srcs) → Limited (take count (drop from rec))
@@ -220,11 +218,11 @@ module _ (s : Settings) (list table : List ℕ) (passes : ListPasses s list tabl
       (splice-after rec (ws ++ ss) (shape .regs) (shape .dsts + shape .srcs) room mid-length p) h)
 
   out-word : (p : ℕ) → p < 8 → leb (wordAt (outAt u i) p) (getD (shape .most) p 0) ≡ true
-  unfolding fieldsFit wordsFit Limited
+  unfolding Limited
   out-word p l = go (decLt p (shape .regs)) (decLe (shape .regs + (shape .dsts + shape .srcs)) p)
     where
       old : leb (wordAt rec p) (getD (shape .most) p 0) ≡ true
-      old = all-at (wordFits rec (shape .most)) 8 p (and-both (allBelow 8 (wordFits rec (shape .most))) _ (passes .each i inside .shape .fields) .0) l
+      old = word-fits table rec (passes .each i inside .shape .fields) p l
 
       go : Dec (p < shape .regs) → Dec (shape .regs + (shape .dsts + shape .srcs) ≤ p) → leb (wordAt (outAt u i) p) (getD (shape .most) p 0) ≡ true
       go (yes a) b = rw (same-word p (inl a)) old

@@ -22,9 +22,9 @@ use mir::Place;
 use mir::Surveyed;
 use mir::config::Settings;
 use mir::questions::Verdict;
-use mir::questions::check;
 use mir::questions::check_sizes;
 use mir::survey;
+use questions::check;
 use walks::Counts;
 
 // A refusal: the question's number above bit 32, the record's index below it.

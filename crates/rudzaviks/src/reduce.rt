@@ -7,7 +7,7 @@ use crate::settings_of;
 use allocator::Answer;
 use mir::config::Settings;
 use mir::questions::Verdict;
-use mir::questions::check;
+use questions::check;
 use walks::Counts;
 use walks::reduce;
 ghost use Prim.Native.Nat.{_+_, _*_, _≤_};

@@ -1,7 +1,5 @@
 -- The laws that the functions' proofs cite. Those that serve one file of src/ stand in the folder of its name.
-pub mod Bits
 pub mod Over
 pub mod Words
 pub mod Registers
-pub mod Slots
 pub mod Walks

@@ -1,13 +1,13 @@
 -- A slice that starts with words, all else being what it held: reading and writing among the words, one word more, more
--- words over fewer; and a list changed element by element.
+-- words over fewer.
 -- By the laws of `set`, `take` and `drop` at a seam.
 use Prim.Native.Nat.{ℕ, suc, _+_, _-_, _<_, _≤_}
-use mathlib.Core.List.{List, [], _∷_, _++_, map, append-nil, append-assoc}
+use mathlib.Core.List.{List, [], _∷_, _++_, append-nil, append-assoc}
 use mathlib.Core.Path.{_≡_, refl, sym, ap, subst, _∙_}
 use native.Mathlib.Numerals.{add-one}
 use native.Mathlib.Omega.{arith}
-use lib.ListN.{length, getD, set, take, drop, length-append, length-drop, length-map, take-append-drop, List·getD-append, drop-of-length-le}
-use lib.Seq.{length-take-le, take-all, drop-cons, take-suc, append-snoc, set-at, set-append-left, getD-at, drop-append-add}
+use lib.ListN.{length, getD, set, take, drop, length-append, length-drop, List·getD-append, drop-of-length-le}
+use lib.Seq.{take-all, drop-cons, append-snoc, set-at, set-append-left, drop-append-add}
 use lib.Seq.{take-append-seam, drop-drop}
 use Rattle.mir.specs.Answers.{over}
 
@@ -64,46 +64,3 @@ part-over ws out last at e =
   where
     h : length (drop at out) ≤ length out - at
     h = rw (length-drop at out) (omega arith)
-
--- ---- a list changed element by element
-
-module _ {ℓ} {A : Type ℓ} (f : A → A) where
-  pub map-snoc : (ys : List A) (y : A) → map f (ys ++ y ∷ []) ≡ map f ys ++ f y ∷ []
-  map-snoc [] y = refl
-  map-snoc (z ∷ ys) y = ap (λ r. f z ∷ r) (map-snoc ys y)
-
-  pub mappedTo : List A → ℕ → List A
-  mappedTo xs c = map f (take c xs) ++ drop c xs
-
-  pub mapped-zero : (xs : List A) → xs ≡ mappedTo xs 0
-  unfolding mappedTo
-  mapped-zero xs = refl
-
-  pub mapped-length : (xs : List A) (c : ℕ) → length (mappedTo xs c) ≡ length xs
-  unfolding mappedTo
-  mapped-length xs c =
-      length-append (map f (take c xs)) (drop c xs)
-      ∙ (ap (λ k. k + length (drop c xs)) (length-map (take c xs) f) ∙ (sym (length-append (take c xs) (drop c xs)) ∙ ap length (take-append-drop c xs)))
-
-  head-length : (xs : List A) (c : ℕ) → c < length xs → length (map f (take c xs)) ≡ c
-  head-length xs c h = length-map (take c xs) f ∙ length-take-le c xs (omega arith)
-
-  pub mapped-at : (xs : List A) (c : ℕ) (d : A) → c < length xs → getD (mappedTo xs c) c d ≡ getD xs c d
-  unfolding mappedTo
-  mapped-at xs c d h =
-      ap (λ r. getD (map f (take c xs) ++ r) c d) (drop-cons xs c d h)
-      ∙ getD-at (map f (take c xs)) (getD xs c d) (drop (suc c) xs) d c (head-length xs c h)
-
-  pub mapped-next : (xs : List A) (c : ℕ) (d : A) → c < length xs → set (mappedTo xs c) c (f (getD xs c d)) ≡ mappedTo xs (c + 1)
-  unfolding mappedTo
-  mapped-next xs c d h =
-      rw (add-one c)
-      (ap (λ r. set (map f (take c xs) ++ r) c (f (getD xs c d))) (drop-cons xs c d h)
-      ∙ (set-at (map f (take c xs)) (getD xs c d) (drop (suc c) xs) (f (getD xs c d)) c (head-length xs c h)
-      ∙ (sym (append-snoc (map f (take c xs)) (f (getD xs c d)) (drop (suc c) xs))
-      ∙ ap (λ r. r ++ drop (suc c) xs) (sym (map-snoc (take c xs) (getD xs c d)) ∙ ap (map f) (sym (take-suc xs c d h))))))
-
-  pub mapped-all : (xs : List A) (c : ℕ) → length xs ≤ c → mappedTo xs c ≡ map f xs
-  unfolding mappedTo
-  mapped-all xs c h =
-      ap (λ r. map f r ++ drop c xs) (take-all c xs h) ∙ (ap (λ r. map f xs ++ r) (drop-of-length-le xs h) ∙ append-nil (map f xs))

@@ -1,6 +1,6 @@
 -- Inner: what a walk needs to know, and what it does to the lent slices.
 use Prim.Native.Nat.{ℕ, zero, suc, _+_, _*_, _/_, _%_, _^_, _<_, _≤_}
-use mathlib.Core.Bool.{Bool, true, false, cond, _&&_, not}
+use mathlib.Core.Bool.{Bool, true, cond, _&&_, not}
 use mathlib.Core.List.{List, [], _∷_, _++_, map}
 use mathlib.Core.Path.{_≡_}
 use lib.Bits.{bitOr}
@@ -9,10 +9,14 @@ use lib.ListN.{length, getD, set, take, drop}
 use Rattle.mir.specs.declared.config.Settings.{Settings}
 use Rattle.mir.specs.declared.rename.Current.{Current}
 use Rattle.mir.specs.declared.rename.Current.the-variants.{Static, Unset}
-use Rattle.mir.specs.Records.{records, isGen, wordAt}
+use Rattle.mir.specs.Inner.{currentsIn}
+use Rattle.mir.specs.Records.{records, isGen, wordAt, maxRegs}
 use Rattle.mir.specs.Renaming.{one}
 use Rattle.mir.specs.Shapes.{shapeFor, dests, sources}
 use Rattle.walks.specs.declared.contract.Tally.{Tally}
+use Rattle.colours.specs.declared.masks.Masks.{Masks}
+use Rattle.colours.specs.Colours.{allocsIn, Stands}
+use Rattle.colours.specs.Masks.{hasBit}
 use Rattle.passes.specs.declared.alloc.Alloc.{Alloc}
 use Rattle.passes.specs.declared.alloc.Choice.{Choice}
 use Rattle.passes.specs.declared.alloc.Choice.the-variants.{Found, Free, Empty}
@@ -44,6 +48,11 @@ pub record Roomy (list table out colours ends set : ℕ) : Type 0 where
 abbrev pub Known : List Current → ℕ → Type 0
 Known regs m = (r t : ℕ) → getD regs r Unset ≡ Static t → t < m
 
+-- the same of the registers' words, of which there is one for each register
+pub record KnownIn (words : List ℕ) (m : ℕ) : Type 0 where
+  pub size : length words ≡ maxRegs
+  pub known : Known (currentsIn words) m
+
 -- destinations that are written at i: the ends of their statics, from n on
 unfoldable pub created : List ℕ → ℕ → ℕ → List ℕ → List ℕ
 created [] n i ends = ends
@@ -52,19 +61,19 @@ created (w ∷ ws) n i ends = created ws (n + one w) i (cond (isGen w) (set ends
 -- ---- the index of the read set
 
 -- the index is three rows of 65,536 bits, one row for each space, in words of 64 bits; the cells that have a bit are near,
--- and a bit is 1 if its cell is a member
+-- and a bit is set if its cell is a member
 abbrev pub isNear : Loc → Bool
 isNear l = ltb (l .space) 3 && ltb (l .index) 65536
 
 abbrev pub cellOf : Loc → ℕ
 cellOf l = l .space * 65536 + l .index
 
-abbrev pub bitAt : List ℕ → ℕ → ℕ
-bitAt seen c = getD seen (c / 64) 0 / 2 ^ (c % 64) % 2
+abbrev pub bitAt : List ℕ → ℕ → Bool
+bitAt seen c = hasBit (getD seen (c / 64) 0) (c % 64)
 
 pub record Indexed (seen : List ℕ) (members : List Loc) : Type 0 where
   pub size : length seen ≡ 3072
-  pub tells : (l : Loc) → isNear l ≡ true → eqb (bitAt seen (cellOf l)) 1 ≡ isMember l members
+  pub tells : (l : Loc) → isNear l ≡ true → bitAt seen (cellOf l) ≡ isMember l members
 
 -- a bit set, and a location marked in the index
 abbrev pub withBit : List ℕ → ℕ → List ℕ
@@ -83,6 +92,16 @@ pub record Slices : Type 0 where
 
 abbrev pub slices : List Alloc → List ℕ → List ℕ → Slices
 slices allocs colours ends = record { allocs = allocs; colours = colours; ends = ends }
+
+-- what is lent to a step: the colours' lives and locations, and the two slices
+abbrev pub slicesIn : List ℕ → List ℕ → List ℕ → List ℕ → Slices
+slicesIn lives locs colours ends = slices (allocsIn lives locs) colours ends
+
+-- what is lent is these slices, and the masks tell of their colours at instruction i
+pub record SlicesAre (n i : ℕ) (σ : Slices) (m : Masks) (lives locs words marked : List ℕ) : Type 0 where
+  pub allocs : Stands n i m lives locs (σ .allocs)
+  pub colours : words ≡ σ .colours
+  pub ends : marked ≡ σ .ends
 
 -- until the last walk has seen it, the end of a static whose location was found is marked: an end is an index below 65,536
 abbrev pub mark : Bool → ℕ
@@ -110,12 +129,18 @@ Picks (Found c) = Unit {0}
 Picks (Free c) = Unit {0}
 Picks Empty = ⊥
 
--- each choice of the destinations picks a colour, for a static whose end is not marked
+-- the choice of a destination picks a colour, for a static whose end is not marked; and so does each choice of the destinations
+abbrev pub ReadyFor : ℕ → ℕ → ℕ → ℕ → Held → Slices → Type 0
+ReadyFor n i next w held σ = isGen w ≡ true → Picks (choose n i held (σ .allocs)) × (getD (σ .ends) next 0 < 65536)
+
 abbrev pub Ready : ℕ → ℕ → ℕ → List (ℕ × Held) → Slices → Type 0
 Ready n i next [] σ = Unit {0}
 Ready n i next (d ∷ ds) σ =
-    (isGen (d .0) ≡ true → Picks (choose n i (d .1) (σ .allocs)) × (getD (σ .ends) next 0 < 65536))
-    × Ready n i (next + one (d .0)) ds (destStep n i next (d .0) (d .1) σ)
+    ReadyFor n i next (d .0) (d .1) σ × Ready n i (next + one (d .0)) ds (destStep n i next (d .0) (d .1) σ)
+
+-- each of the coloured words is one of the n colours, or a named register
+abbrev pub Coloured : ℕ → List ℕ → Type 0
+Coloured n ws = (j : ℕ) → j < length ws → getD ws j 0 < 256 → getD ws j 0 < n
 
 -- one record
 abbrev pub sourceWords : List Current → List ℕ → List ℕ → List ℕ

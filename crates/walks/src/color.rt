@@ -1,13 +1,15 @@
 // The third walk (document 01, section 3): each static's colour, and the read set.
-use crate::allocs::partner;
-use crate::allocs::reset_allocs;
-use crate::allocs::update_allocs;
 use crate::locs::extend;
 use crate::locs::insert;
-use crate::pool::assign;
-use crate::pool::choose;
-use crate::slot::Slot;
-use crate::slot::held_in;
+use colours::allocs::partner;
+use colours::allocs::reset_allocs;
+use colours::allocs::update_allocs;
+use colours::masks::Masks;
+use colours::pool::NOTHING;
+use colours::pool::assign;
+use colours::pool::choose;
+use colours::pool::expire;
+use colours::pool::word_of;
 use mir::config::MAX_REGS;
 use mir::config::Settings;
 use mir::record::record_at;
@@ -22,22 +24,25 @@ use mir::shape::Dests;
 use mir::shape::dests_of;
 use mir::shape::shape_of;
 use passes::alloc::Choice;
-use passes::alloc::Held;
 use passes::symbol::Loc;
 ghost use Prim.Native.Nat.{ℕ, _+_, _*_, _<_, _≤_};
-ghost use mathlib.Core.Bool.{true, _&&_};
-ghost use mathlib.Core.List.{[], _∷_};
+ghost use mathlib.Core.Bool.{true, cond, _&&_};
+ghost use mathlib.Core.List.{List, [], _∷_, map};
 ghost use lib.Dec.{leb};
 ghost use mathlib.Core.Path.{_≡_};
-ghost use lib.ListN.{length, getD};
+ghost use lib.ListN.{length, getD, take, drop};
 ghost use Rattle.mir.specs.Inner.{currentsIn};
 ghost use Rattle.mir.specs.Answers.{over};
-ghost use Rattle.walks.specs.Slots.{allocsIn};
-ghost use Rattle.walks.specs.Walks.{Indexed, Known, slices, destStep, destSteps, Picks, Ready, sourceWords, wantedBy, recordStep, wasFound, readsOf, markedEnds};
-ghost use Rattle.mir.specs.Questions.{fieldsFit, gensFit, partnerFits};
+ghost use Rattle.mir.specs.Folds.{all};
+ghost use Rattle.colours.specs.declared.masks.Masks as masks;
+ghost use Rattle.colours.specs.Colours.{nothing, heldIn, allocsIn, Stands, sourcesUsed};
+ghost use Rattle.colours.specs.Masks.{Masked, Expired};
+ghost use Rattle.walks.specs.Walks.{Indexed, KnownIn, slicesIn, SlicesAre, destStep, destSteps, ReadyFor, Ready, Coloured, sourceWords, wantedBy, recordStep, wasFound, readsOf, markedEnds};
+ghost use Rattle.mir.specs.Questions.{fieldsFit, genFits, gensFit, partnerFits};
 ghost use Rattle.mir.specs.Records.{isGen, maxRegs, records};
 ghost use Rattle.mir.specs.Shapes.{any, dests};
 ghost use Rattle.mir.specs.declared.shape.Action.the-variants as act;
+ghost use Rattle.passes.specs.declared.alloc.Alloc.{Alloc};
 ghost use Rattle.passes.specs.Color.{pairsFrom, joined, locOf, sourceWord, heldBy, wantX, wantY, wanted};
 ghost use Rattle.passes.specs.Color as color;
 ghost use Rattle.passes.specs.Contract.{wordsOf, coloursOf, membersOf};
@@ -48,10 +53,10 @@ ghost use Rattle.passes.specs.Machine.{Passing};
 pub const FOUND: u32 = 65_536;
 
 // A register word in colours: the colour of the static that a Gen source holds.
-pub fn deallocate(regs: [u32; MAX_REGS], w: u32, colours: &[u32]) -> u32
+pub fn deallocate(regs: &[u32; MAX_REGS], w: u32, colours: &[u32]) -> u32
     requires { ⌜ (w < 256 → w < maxRegs) ⌝ }
-    requires { ⌜ Known (currentsIn regs) (length (now colours)) ⌝ }
-    ensures { λ r. ⌜ r ≡ sourceWord (currentsIn regs) (now (colours .entry)) w ⌝ }
+    requires { ⌜ KnownIn (now regs) (length (now colours)) ⌝ }
+    ensures { λ r. ⌜ r ≡ sourceWord (currentsIn (now (regs .entry))) (now (colours .entry)) w ⌝ }
 {
     if 256 <= w {
         return w;
@@ -66,10 +71,10 @@ pub fn deallocate(regs: [u32; MAX_REGS], w: u32, colours: &[u32]) -> u32
 }
 
 // Source `j` of a record in colours, or 0 where it has none.
-fn source_at(regs: [u32; MAX_REGS], rec: [u32; 8], j: usize, colours: &[u32]) -> u32
+fn source_at(regs: &[u32; MAX_REGS], rec: [u32; 8], j: usize, colours: &[u32]) -> u32
     requires { ⌜ gensFit maxRegs rec ≡ true ⌝ }
-    requires { ⌜ Known (currentsIn regs) (length (now colours)) ⌝ }
-    ensures { λ r. ⌜ r ≡ getD (sourceWords (currentsIn regs) (now (colours .entry)) rec) j 0 ⌝ }
+    requires { ⌜ KnownIn (now regs) (length (now colours)) ⌝ }
+    ensures { λ r. ⌜ r ≡ getD (sourceWords (currentsIn (now (regs .entry))) (now (colours .entry)) rec) j 0 ⌝ }
 {
     let s = shape_of(rec[0]);
     if s.srcs <= j {
@@ -79,37 +84,88 @@ fn source_at(regs: [u32; MAX_REGS], rec: [u32; 8], j: usize, colours: &[u32]) ->
     deallocate(regs, rec[p], colours)
 }
 
-// The location that a coloured word's colour holds.
-fn held_by(allocs: [Slot; MAX_REGS], w: u32) -> Held
-    requires { ⌜ (w < 256 → w < maxRegs) ⌝ }
-    ensures { λ r. ⌜ r ≡ heldBy (allocsIn allocs) w ⌝ }
+// The colours of the `count` source words from `from` on become free at instruction `i`, if their lives end there.
+fn expire_words(
+    masks: Masks,
+    regs: &[u32; MAX_REGS],
+    rec: [u32; 8],
+    from: usize,
+    count: usize,
+    i: u32,
+    lives: &[u32; MAX_REGS],
+    colours: &[u32],
+) -> Masks
+    requires { ⌜ from + count ≤ 8 ⌝ }
+    requires { ⌜ all (genFits maxRegs) (take count (drop from rec)) ≡ true ⌝ }
+    requires { ⌜ KnownIn (now regs) (length (now colours)) ⌝ }
+    requires { ⌜ Coloured maxRegs (map (sourceWord (currentsIn (now regs)) (now colours)) (take count (drop from rec))) ⌝ }
+    ensures { λ r. ⌜ Expired masks (map (sourceWord (currentsIn (now (regs .entry))) (now (colours .entry))) (take count (drop from rec))) i (now (lives .entry)) r ⌝ }
 {
-    if 256 <= w {
-        return Held::Nothing;
+    let mut out = masks;
+    let mut j = 0;
+    while j < count {
+        let c = deallocate(regs, rec[from + j], colours);
+        let left = expire(out, c, i, lives);
+        out = left;
+        j += 1;
     }
-    let c = w as usize;
-    held_in(allocs[c])
+    out
 }
 
-// What x is wanted with; `held` is what the source's colour holds.
-fn want_x(action: Action, l: Loc, held: Held) -> Held
-    ensures { λ r. ⌜ r ≡ wantX action l held ⌝ }
+// The colours of a record's sources become free, if their lives end at it.
+fn expire_sources(
+    masks: Masks,
+    regs: &[u32; MAX_REGS],
+    rec: [u32; 8],
+    i: u32,
+    lives: &[u32; MAX_REGS],
+    colours: &[u32],
+) -> Masks
+    requires { ⌜ gensFit maxRegs rec ≡ true ⌝ }
+    requires { ⌜ KnownIn (now regs) (length (now colours)) ⌝ }
+    requires { ⌜ Coloured maxRegs (sourceWords (currentsIn (now regs)) (now colours) rec) ⌝ }
+    ensures { λ r. ⌜ Expired masks (sourceWords (currentsIn (now (regs .entry))) (now (colours .entry)) rec) i (now (lives .entry)) r ⌝ }
+{
+    let s = shape_of(rec[0]);
+    let from = s.regs + s.dsts;
+    let count = s.srcs;
+    expire_words(masks, regs, rec, from, count, i, lives, colours)
+}
+
+// The word of the location that a coloured word's colour holds.
+fn held_by(locs: &[u64; MAX_REGS], w: u32) -> u64
+    requires { ⌜ (w < 256 → w < maxRegs) ⌝ }
+    ensures { λ r. ⌜ r ≡ cond (isGen w) (getD (now (locs .entry)) w 0) nothing ⌝ }
+{
+    if 256 <= w {
+        return NOTHING;
+    }
+    let c = w as usize;
+    locs[c]
+}
+
+// What x is wanted with; the first source's colour is `x`.
+fn want_x(action: Action, l: Loc, x: u32, locs: &[u64; MAX_REGS]) -> u64
+    requires { ⌜ l .space < any ⌝ }
+    requires { ⌜ (0 < sourcesUsed action → x < 256 → x < maxRegs) ⌝ }
+    ensures { λ r. ⌜ ((n i : ℕ) (m : masks.Masks) (lives : List ℕ) (allocs : List Alloc) → Stands n i m lives (now (locs .entry)) allocs → heldIn r ≡ wantX action l (heldBy allocs x)) ⌝ }
 {
     match action {
-        Action::Mov => held,
-        Action::Load | Action::LoadComplex => Held::At(l),
-        _ => Held::Nothing,
+        Action::Mov => held_by(locs, x),
+        Action::Load | Action::LoadComplex => word_of(l),
+        _ => NOTHING,
     }
 }
 
 // What y is wanted with.
-fn want_y(action: Action, l: Loc) -> Held
+fn want_y(action: Action, l: Loc) -> u64
+    requires { ⌜ l .space < any ⌝ }
     requires { ⌜ (action ≡ act.LoadComplex → l .index < any) ⌝ }
-    ensures { λ r. ⌜ r ≡ wantY action l ⌝ }
+    ensures { λ r. ⌜ heldIn r ≡ wantY action l ⌝ }
 {
     match action {
-        Action::LoadComplex => Held::At(partner(l)),
-        _ => Held::Nothing,
+        Action::LoadComplex => word_of(partner(l)),
+        _ => NOTHING,
     }
 }
 
@@ -127,105 +183,106 @@ pub fn loc_of(rec: [u32; 8]) -> Loc
 
 // One destination: the static `next`, if it is Gen, takes a colour. The pool is never empty on a list that passes.
 fn color_dest(
-    allocs: [Slot; MAX_REGS],
+    masks: Masks,
     w: u32,
-    held: Held,
+    want: u64,
     n: usize,
     i: u32,
     next: usize,
+    lives: &mut [u32; MAX_REGS],
+    locs: &mut [u64; MAX_REGS],
     colours: &mut [u32],
     ends: &mut [u32],
-) -> [Slot; MAX_REGS]
-    requires { ⌜ n ≤ maxRegs ⌝ }
+) -> Masks
+    requires { ⌜ Masked n i masks (allocsIn (now lives) (now locs)) ⌝ }
     requires { ⌜ next < length (now colours) ⌝ }
     requires { ⌜ next < length (now ends) ⌝ }
-    requires { ⌜ (isGen w ≡ true → Picks (color.choose n i held (allocsIn allocs)) × (getD (now ends) next 0 < 65536)) ⌝ }
-    ensures allocs { λ r. ⌜ allocsIn r ≡ destStep n i next w held (slices (allocsIn allocs) (now (colours .entry)) (now (ends .entry))) .allocs ⌝ }
-    ensures colours { λ _. ⌜ now (colours .exit) ≡ destStep n i next w held (slices (allocsIn allocs) (now (colours .entry)) (now (ends .entry))) .colours ⌝ }
-    ensures ends { λ _. ⌜ now (ends .exit) ≡ destStep n i next w held (slices (allocsIn allocs) (now (colours .entry)) (now (ends .entry))) .ends ⌝ }
+    requires { ⌜ ReadyFor n i next w (heldIn want) (slicesIn (now lives) (now locs) (now colours) (now ends)) ⌝ }
+    ensures { λ r. ⌜ SlicesAre n i (destStep n i next w (heldIn want) (slicesIn (now (lives .entry)) (now (locs .entry)) (now (colours .entry)) (now (ends .entry)))) r (now (lives .exit)) (now (locs .exit)) (now (colours .exit)) (now (ends .exit)) ⌝ }
 {
     if 256 <= w {
-        return allocs;
+        return masks;
     }
     let end = ends[next];
-    let choice = choose(allocs, n, i, held);
+    let choice = choose(masks, n, locs, want);
     match choice {
         Choice::Found(c) => {
             colours[next] = c;
             ends[next] = end + FOUND;
-            assign(allocs, c, end, held)
+            assign(masks, c, end, want, i, lives, locs)
         }
         Choice::Free(c) => {
             colours[next] = c;
-            assign(allocs, c, end, held)
+            assign(masks, c, end, want, i, lives, locs)
         }
-        Choice::Empty => allocs,
+        Choice::Empty => masks,
     }
 }
 
 // The destinations of a record, x before y.
 fn color_dests(
-    allocs: [Slot; MAX_REGS],
+    masks: Masks,
     rec: [u32; 8],
-    hx: Held,
-    hy: Held,
+    hx: u64,
+    hy: u64,
     n: usize,
     i: u32,
     next: usize,
+    lives: &mut [u32; MAX_REGS],
+    locs: &mut [u64; MAX_REGS],
     colours: &mut [u32],
     ends: &mut [u32],
-) -> [Slot; MAX_REGS]
-    requires { ⌜ n ≤ maxRegs ⌝ }
+) -> Masks
+    requires { ⌜ Masked n i masks (allocsIn (now lives) (now locs)) ⌝ }
     requires { ⌜ next + 2 ≤ length (now colours) ⌝ }
     requires { ⌜ next + 2 ≤ length (now ends) ⌝ }
-    requires { ⌜ Ready n i next (wanted (dests rec) hx hy) (slices (allocsIn allocs) (now colours) (now ends)) ⌝ }
-    ensures allocs { λ r. ⌜ allocsIn r ≡ destSteps n i next (wanted (dests rec) hx hy) (slices (allocsIn allocs) (now (colours .entry)) (now (ends .entry))) .allocs ⌝ }
-    ensures colours { λ _. ⌜ now (colours .exit) ≡ destSteps n i next (wanted (dests rec) hx hy) (slices (allocsIn allocs) (now (colours .entry)) (now (ends .entry))) .colours ⌝ }
-    ensures ends { λ _. ⌜ now (ends .exit) ≡ destSteps n i next (wanted (dests rec) hx hy) (slices (allocsIn allocs) (now (colours .entry)) (now (ends .entry))) .ends ⌝ }
+    requires { ⌜ Ready n i next (wanted (dests rec) (heldIn hx) (heldIn hy)) (slicesIn (now lives) (now locs) (now colours) (now ends)) ⌝ }
+    ensures { λ r. ⌜ SlicesAre n i (destSteps n i next (wanted (dests rec) (heldIn hx) (heldIn hy)) (slicesIn (now (lives .entry)) (now (locs .entry)) (now (colours .entry)) (now (ends .entry)))) r (now (lives .exit)) (now (locs .exit)) (now (colours .exit)) (now (ends .exit)) ⌝ }
 {
     match dests_of(rec) {
-        Dests::Nothing => allocs,
-        Dests::One(x) => color_dest(allocs, x, hx, n, i, next, colours, ends),
+        Dests::Nothing => masks,
+        Dests::One(x) => color_dest(masks, x, hx, n, i, next, lives, locs, colours, ends),
         Dests::Two(x, y) => {
-            let given = color_dest(allocs, x, hx, n, i, next, colours, ends);
+            let given = color_dest(masks, x, hx, n, i, next, lives, locs, colours, ends);
             let after = next + (count_static(x) as usize);
-            color_dest(given, y, hy, n, i, after, colours, ends)
+            color_dest(given, y, hy, n, i, after, lives, locs, colours, ends)
         }
     }
 }
 
 // One record.
 fn color_record(
-    allocs: [Slot; MAX_REGS],
+    masks: Masks,
     rec: [u32; 8],
-    regs: [u32; MAX_REGS],
+    regs: &[u32; MAX_REGS],
     n: usize,
     i: u32,
     next: usize,
+    lives: &mut [u32; MAX_REGS],
+    locs: &mut [u64; MAX_REGS],
     colours: &mut [u32],
     ends: &mut [u32],
-) -> [Slot; MAX_REGS]
+) -> Masks
     requires { ⌜ gensFit maxRegs rec ≡ true ⌝ }
     requires { ⌜ partnerFits rec ≡ true ⌝ }
-    requires { ⌜ Known (currentsIn regs) (length (now colours)) ⌝ }
-    requires { ⌜ ((j : ℕ) → getD (sourceWords (currentsIn regs) (now colours) rec) j 0 < 256 → getD (sourceWords (currentsIn regs) (now colours) rec) j 0 < maxRegs) ⌝ }
-    requires { ⌜ n ≤ maxRegs ⌝ }
+    requires { ⌜ locOf rec .space < any ⌝ }
+    requires { ⌜ KnownIn (now regs) (length (now colours)) ⌝ }
+    requires { ⌜ Coloured n (sourceWords (currentsIn (now regs)) (now colours) rec) ⌝ }
+    requires { ⌜ Masked n i masks (allocsIn (now lives) (now locs)) ⌝ }
     requires { ⌜ next + 2 ≤ length (now colours) ⌝ }
     requires { ⌜ next + 2 ≤ length (now ends) ⌝ }
-    requires { ⌜ Ready n i next (wantedBy (currentsIn regs) rec (slices (allocsIn allocs) (now colours) (now ends))) (slices (allocsIn allocs) (now colours) (now ends)) ⌝ }
-    ensures allocs { λ r. ⌜ allocsIn r ≡ recordStep n i next (currentsIn regs) rec (slices (allocsIn allocs) (now (colours .entry)) (now (ends .entry))) .allocs ⌝ }
-    ensures colours { λ _. ⌜ now (colours .exit) ≡ recordStep n i next (currentsIn regs) rec (slices (allocsIn allocs) (now (colours .entry)) (now (ends .entry))) .colours ⌝ }
-    ensures ends { λ _. ⌜ now (ends .exit) ≡ recordStep n i next (currentsIn regs) rec (slices (allocsIn allocs) (now (colours .entry)) (now (ends .entry))) .ends ⌝ }
+    requires { ⌜ Ready n i next (wantedBy (currentsIn (now regs)) rec (slicesIn (now lives) (now locs) (now colours) (now ends))) (slicesIn (now lives) (now locs) (now colours) (now ends)) ⌝ }
+    ensures { λ r. ⌜ SlicesAre n i (recordStep n i next (currentsIn (now (regs .entry))) rec (slicesIn (now (lives .entry)) (now (locs .entry)) (now (colours .entry)) (now (ends .entry)))) r (now (lives .exit)) (now (locs .exit)) (now (colours .exit)) (now (ends .exit)) ⌝ }
 {
     let s = shape_of(rec[0]);
     let action = s.action;
     let l = loc_of(rec);
     let x = source_at(regs, rec, 0, colours);
     let y = source_at(regs, rec, 1, colours);
-    let hx = want_x(action, l, held_by(allocs, x));
+    let hx = want_x(action, l, x, locs);
     let hy = want_y(action, l);
-    let given = color_dests(allocs, rec, hx, hy, n, i, next, colours, ends);
-    update_allocs(given, action, l, x, y)
+    let given = color_dests(masks, rec, hx, hy, n, i, next, lives, locs, colours, ends);
+    update_allocs(given, n, action, l, x, y, lives, locs)
 }
 
 // Whether every destination was found; `next` is the record's first static. It counts at a load.
@@ -350,19 +407,32 @@ pub fn color(
     let count = list.len() / 8;
     let mut regs = [UNSET; MAX_REGS];
     let mut statics = 0;
-    let mut allocs = reset_allocs();
+    let mut lives = [0; MAX_REGS];
+    let mut locs = [NOTHING; MAX_REGS];
+    let mut masks = reset_allocs(n, &mut lives, &mut locs);
     let mut members = 0;
     let mut i = 0;
     while i < count {
         let rec = record_at(list, i);
         let first = statics as usize;
-        let colored = color_record(allocs, rec, regs, n, i as u32, first, colours, ends);
+        let freed = expire_sources(masks, &regs, rec, i as u32, &lives, colours);
+        let colored = color_record(
+            freed,
+            rec,
+            &regs,
+            n,
+            i as u32,
+            first,
+            &mut lives,
+            &mut locs,
+            colours,
+            ends,
+        );
         let found = was_found(rec, first, ends);
         let grown = read_record(rec, found, table, set, members, seen);
-        let next = rename(regs, rec, statics);
-        allocs = colored;
+        rename(&mut regs, rec, statics);
+        masks = colored;
         members = grown;
-        regs = next;
         statics += count_statics(rec);
         i += 1;
     }

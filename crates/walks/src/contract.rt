@@ -1,10 +1,10 @@
 // The last walk (document 01, section 4): the records that are kept, in colours.
-use crate::allocs::partner;
 use crate::color::FOUND;
 use crate::color::deallocate;
 use crate::color::loc_of;
 use crate::color::was_found;
 use crate::locs::contains;
+use colours::allocs::partner;
 use mir::config::MAX_REGS;
 use mir::config::Settings;
 use mir::record::record_at;
@@ -31,7 +31,7 @@ ghost use lib.ListN.{length, getD, set, take, drop};
 ghost use lib.Seq.{sets};
 ghost use Rattle.mir.specs.Inner.{currentsIn};
 ghost use Rattle.mir.specs.Answers.{over};
-ghost use Rattle.walks.specs.Walks.{Indexed, Known, Colored, Contracted, Short, destWords, rewritten, outcomeIn, unmarked, tallied};
+ghost use Rattle.walks.specs.Walks.{Indexed, KnownIn, Colored, Contracted, Short, destWords, rewritten, outcomeIn, unmarked, tallied};
 ghost use Rattle.mir.specs.Folds.{all};
 ghost use Rattle.mir.specs.Questions.{genFits, gensFit, partnerFits};
 ghost use Rattle.mir.specs.Records.{isGen, maxRegs};
@@ -77,13 +77,13 @@ fn rewrite_words(
     rec: [u32; 8],
     from: usize,
     count: usize,
-    regs: [u32; MAX_REGS],
+    regs: &[u32; MAX_REGS],
     colours: &[u32],
 ) -> [u32; 8]
     requires { ⌜ from + count ≤ 8 ⌝ }
     requires { ⌜ all (genFits maxRegs) (take count (drop from rec)) ≡ true ⌝ }
-    requires { ⌜ Known (currentsIn regs) (length (now colours)) ⌝ }
-    ensures { λ r. ⌜ r ≡ sets rec from (map (sourceWord (currentsIn regs) (now (colours .entry))) (take count (drop from rec))) ⌝ }
+    requires { ⌜ KnownIn (now regs) (length (now colours)) ⌝ }
+    ensures { λ r. ⌜ r ≡ sets rec from (map (sourceWord (currentsIn (now (regs .entry))) (now (colours .entry))) (take count (drop from rec))) ⌝ }
 {
     let mut out = rec;
     let mut j = 0;
@@ -95,11 +95,11 @@ fn rewrite_words(
 }
 
 // A record in colours; `next` is its first static.
-fn rewrite(rec: [u32; 8], regs: [u32; MAX_REGS], next: usize, colours: &[u32]) -> [u32; 8]
+fn rewrite(rec: [u32; 8], regs: &[u32; MAX_REGS], next: usize, colours: &[u32]) -> [u32; 8]
     requires { ⌜ gensFit maxRegs rec ≡ true ⌝ }
     requires { ⌜ next + 2 ≤ length (now colours) ⌝ }
-    requires { ⌜ Known (currentsIn regs) (length (now colours)) ⌝ }
-    ensures { λ r. ⌜ r ≡ rewritten (currentsIn regs) next (now (colours .entry)) rec ⌝ }
+    requires { ⌜ KnownIn (now regs) (length (now colours)) ⌝ }
+    ensures { λ r. ⌜ r ≡ rewritten (currentsIn (now (regs .entry))) next (now (colours .entry)) rec ⌝ }
 {
     let s = shape_of(rec[0]);
     let from = s.regs + s.dsts;
@@ -311,7 +311,7 @@ fn add_outcome(t: Tally, outcome: Outcome) -> Tally
 // One record: what it is rewritten to goes out, if it is kept, after the records that were.
 fn contract_record(
     rec: [u32; 8],
-    regs: [u32; MAX_REGS],
+    regs: &[u32; MAX_REGS],
     next: usize,
     fixed: u64,
     colours: &[u32],
@@ -327,13 +327,13 @@ fn contract_record(
     requires { ⌜ partnerFits rec ≡ true ⌝ }
     requires { ⌜ next + 2 ≤ length (now colours) ⌝ }
     requires { ⌜ next + 2 ≤ length (now ends) ⌝ }
-    requires { ⌜ Known (currentsIn regs) (length (now colours)) ⌝ }
+    requires { ⌜ KnownIn (now regs) (length (now colours)) ⌝ }
     requires { ⌜ members * 2 ≤ length (now locs) ⌝ }
     requires { ⌜ Short tally any ⌝ }
     requires { ⌜ tally .records * 8 + 8 ≤ length (now out) ⌝ }
-    ensures tally { λ r. ⌜ r ≡ tallied (outcomeIn fixed (pairsFrom (now (locs .entry)) 0 members) (currentsIn regs) next (now (colours .entry)) (now (ends .entry)) rec) tally ⌝ }
+    ensures tally { λ r. ⌜ r ≡ tallied (outcomeIn fixed (pairsFrom (now (locs .entry)) 0 members) (currentsIn (now (regs .entry))) next (now (colours .entry)) (now (ends .entry)) rec) tally ⌝ }
     ensures ends { λ _. ⌜ now (ends .exit) ≡ unmarked (dests rec) next (now (ends .entry)) ⌝ }
-    ensures out { λ _. ⌜ now (out .exit) ≡ cond (isKept (outcomeIn fixed (pairsFrom (now (locs .entry)) 0 members) (currentsIn regs) next (now (colours .entry)) (now (ends .entry)) rec)) (take (tally .records * 8) (now (out .entry)) ++ over (rewritten (currentsIn regs) next (now (colours .entry)) rec) (drop (tally .records * 8) (now (out .entry)))) (now (out .entry)) ⌝ }
+    ensures out { λ _. ⌜ now (out .exit) ≡ cond (isKept (outcomeIn fixed (pairsFrom (now (locs .entry)) 0 members) (currentsIn (now (regs .entry))) next (now (colours .entry)) (now (ends .entry)) rec)) (take (tally .records * 8) (now (out .entry)) ++ over (rewritten (currentsIn (now (regs .entry))) next (now (colours .entry)) rec) (drop (tally .records * 8) (now (out .entry)))) (now (out .entry)) ⌝ }
 {
     let found = was_found(rec, next, ends);
     unmark(rec, next, ends);
@@ -376,7 +376,7 @@ pub fn contract(
         let first = statics as usize;
         let added = contract_record(
             rec,
-            regs,
+            &regs,
             first,
             fixed,
             colours,
@@ -387,9 +387,8 @@ pub fn contract(
             out,
             seen,
         );
-        let next = rename(regs, rec, statics);
+        rename(&mut regs, rec, statics);
         tally = added;
-        regs = next;
         statics += count_statics(rec);
         i += 1;
     }

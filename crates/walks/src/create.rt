@@ -16,7 +16,7 @@ ghost use mathlib.Core.Path.{_≡_};
 ghost use lib.ListN.{length, set, take, drop};
 ghost use Rattle.mir.specs.Inner.{currentsIn};
 ghost use Rattle.mir.specs.Answers.{over};
-ghost use Rattle.walks.specs.Walks.{Known, Passes, created};
+ghost use Rattle.walks.specs.Walks.{KnownIn, Passes, created};
 ghost use Rattle.mir.specs.Folds.{all};
 ghost use Rattle.mir.specs.Questions.{genFits, gensFit};
 ghost use Rattle.mir.specs.Records.{isGen, maxRegs, records};
@@ -25,10 +25,10 @@ ghost use Rattle.passes.specs.Create.{consumed, endsOf};
 ghost use Rattle.passes.specs.Create as create;
 
 // A source is read at instruction `i`: the static that it holds ends there, so far.
-fn consume(regs: [u32; MAX_REGS], w: u32, i: u32, ends: &mut [u32])
+fn consume(regs: &[u32; MAX_REGS], w: u32, i: u32, ends: &mut [u32])
     requires { ⌜ (w < 256 → w < maxRegs) ⌝ }
-    requires { ⌜ Known (currentsIn regs) (length (now ends)) ⌝ }
-    ensures { λ _. ⌜ now (ends .exit) ≡ create.consume (currentsIn regs) i w (now (ends .entry)) ⌝ }
+    requires { ⌜ KnownIn (now regs) (length (now ends)) ⌝ }
+    ensures { λ _. ⌜ now (ends .exit) ≡ create.consume (currentsIn (now (regs .entry))) i w (now (ends .entry)) ⌝ }
 {
     if 256 <= w {
         return;
@@ -44,7 +44,7 @@ fn consume(regs: [u32; MAX_REGS], w: u32, i: u32, ends: &mut [u32])
 
 // The `count` source words from `from` on are read.
 fn consume_words(
-    regs: [u32; MAX_REGS],
+    regs: &[u32; MAX_REGS],
     rec: [u32; 8],
     from: usize,
     count: usize,
@@ -53,8 +53,8 @@ fn consume_words(
 )
     requires { ⌜ from + count ≤ 8 ⌝ }
     requires { ⌜ all (genFits maxRegs) (take count (drop from rec)) ≡ true ⌝ }
-    requires { ⌜ Known (currentsIn regs) (length (now ends)) ⌝ }
-    ensures { λ _. ⌜ now (ends .exit) ≡ consumed (currentsIn regs) i (take count (drop from rec)) (now (ends .entry)) ⌝ }
+    requires { ⌜ KnownIn (now regs) (length (now ends)) ⌝ }
+    ensures { λ _. ⌜ now (ends .exit) ≡ consumed (currentsIn (now (regs .entry))) i (take count (drop from rec)) (now (ends .entry)) ⌝ }
 {
     let mut j = 0;
     while j < count {
@@ -64,10 +64,10 @@ fn consume_words(
 }
 
 // A record's sources are read.
-fn consume_sources(regs: [u32; MAX_REGS], rec: [u32; 8], i: u32, ends: &mut [u32])
+fn consume_sources(regs: &[u32; MAX_REGS], rec: [u32; 8], i: u32, ends: &mut [u32])
     requires { ⌜ gensFit maxRegs rec ≡ true ⌝ }
-    requires { ⌜ Known (currentsIn regs) (length (now ends)) ⌝ }
-    ensures { λ _. ⌜ now (ends .exit) ≡ consumed (currentsIn regs) i (sources rec) (now (ends .entry)) ⌝ }
+    requires { ⌜ KnownIn (now regs) (length (now ends)) ⌝ }
+    ensures { λ _. ⌜ now (ends .exit) ≡ consumed (currentsIn (now (regs .entry))) i (sources rec) (now (ends .entry)) ⌝ }
 {
     let s = shape_of(rec[0]);
     let from = s.regs + s.dsts;
@@ -117,10 +117,9 @@ pub fn create(list: &[u32], ends: &mut [u32])
     let mut i = 0;
     while i < n {
         let rec = record_at(list, i);
-        consume_sources(regs, rec, i as u32, ends);
+        consume_sources(&regs, rec, i as u32, ends);
         create_statics(rec, i as u32, statics as usize, ends);
-        let next = rename(regs, rec, statics);
-        regs = next;
+        rename(&mut regs, rec, statics);
         statics += count_statics(rec);
         i += 1;
     }

@@ -8,13 +8,10 @@ ghost use Rattle.passes.specs.Machine.{Passing};
 ghost use Rattle.walks.specs.Lent.{lent, valuesIn};
 ghost use Rattle.walks.specs.Walks.{Indexed, Roomy, Reduces};
 
-pub mod allocs;
 pub mod color;
 pub mod contract;
 pub mod create;
 pub mod locs;
-pub mod pool;
-pub mod slot;
 
 use crate::color::Sizes;
 use crate::contract::Tally;

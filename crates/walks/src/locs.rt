@@ -1,17 +1,25 @@
 // The read set (document 01, section 3; the Rust's `locs`): the locations that records of the output read, two words each,
 // in joining order and without repeats.
-use crate::pool::same_loc;
 use passes::symbol::Loc;
 ghost use Prim.Native.Nat.{_+_, _*_, _/_, _<_, _≤_};
 ghost use mathlib.Core.Bool.{true};
 ghost use mathlib.Core.Path.{_≡_};
-ghost use lib.Dec.{eqb};
 ghost use lib.ListN.{length, getD};
 ghost use Rattle.mir.specs.Answers.{over};
 ghost use Rattle.passes.specs.Contract.{wordsOf};
 ghost use Rattle.walks.specs.Walks.{Indexed, isNear, cellOf, bitAt, withBit, noted};
 ghost use Rattle.passes.specs.Color as color;
-ghost use Rattle.passes.specs.Color.{pairsFrom, isMember, join, joined};
+ghost use Rattle.passes.specs.Color.{sameLoc, pairsFrom, isMember, join, joined};
+
+fn same_loc(l: Loc, m: Loc) -> bool
+    ensures { λ r. ⌜ r ≡ sameLoc l m ⌝ }
+{
+    if l.space == m.space {
+        l.index == m.index
+    } else {
+        false
+    }
+}
 
 // The location whose words are the `j`th pair.
 fn loc_at(words: &[u32], j: usize) -> Loc
@@ -60,7 +68,7 @@ fn cell(l: Loc) -> usize
 // Whether the bit at place `c` is set.
 fn bit_at(seen: &[u64], c: usize) -> bool
     requires { ⌜ c / 64 < length (now seen) ⌝ }
-    ensures { λ r. ⌜ r ≡ eqb (bitAt (now (seen .entry)) c) 1 ⌝ }
+    ensures { λ r. ⌜ r ≡ bitAt (now (seen .entry)) c ⌝ }
 {
     let w = c / 64;
     let b = (c % 64) as u64;

@@ -9,6 +9,7 @@ use native.Mathlib.Nat.{add-zero}
 use native.Mathlib.Omega.{arith}
 use lib.Dec.{leb}
 use lib.ListN.{length, getD, set, length-append}
+use lib.Seq.{set-getD}
 use borrow.Author.Tests.{le-leb, lt-leb}
 use Rattle.mir.specs.Records.{isGen}
 use Rattle.mir.specs.Renaming.{one, gens}
@@ -20,11 +21,22 @@ use Rattle.passes.specs.Color.{Coloring, choose, chosen, isFound, choiceFor, as
 use Rattle.passes.proofs.Choice.{pool-not-empty}
 use Rattle.passes.proofs.Pool.{words}
 use Rattle.mir.specs.Answers.{over}
-use Rattle.walks.specs.Walks.{Slices, slices, mark, destStep, destSteps, Picks, Ready, foundsFor, marked}
+use Rattle.colours.specs.declared.masks.Masks.{Masks}
+use Rattle.colours.specs.Colours.{allocsIn}
+use Rattle.colours.specs.Masks.{Masked}
+use Rattle.walks.specs.Walks.{Slices, slices, slicesIn, SlicesAre, mark, destStep, destSteps, Picks, ReadyFor, Ready, foundsFor, marked}
 use Rattle.walks.proofs.Over.{over-get, over-set, over-next}
 
 pub slices-same : {a : List Alloc} {c e : List ℕ} (σ : Slices) → a ≡ σ .allocs → c ≡ σ .colours → e ≡ σ .ends → slices a c e ≡ σ
 slices-same σ p q r = λ i. record { allocs = p i; colours = q i; ends = r i }
+
+-- what is lent is the slices that it is said to be, and the masks tell of what is lent
+module _ {n i : ℕ} {σ : Slices} {m : Masks} {lives locs cs es : List ℕ} (h : SlicesAre n i σ m lives locs cs es) where
+  pub lent-are : slicesIn lives locs cs es ≡ σ
+  lent-are = slices-same σ (h .allocs .same) (h .colours) (h .ends)
+
+  pub lent-masked : Masked n i m (allocsIn lives locs)
+  lent-masked = rw (h .allocs .same) (h .allocs .masked)
 
 -- ---- marks
 
@@ -70,6 +82,29 @@ picks n i h st p = go (choose n i h (st .allocs)) (pool-not-empty n i h st p)
     go (Found c) f = tt
     go (Free c) f = tt
     go Empty f = f refl
+
+-- ---- one destination, by its choice
+
+module _ (n i next w : ℕ) (held : Held) (σ : Slices) where
+  pub step-named : isGen w ≡ false → destStep n i next w held σ ≡ σ
+  unfolding destStep
+  step-named g = rw g
+
+  module _ (g : isGen w ≡ true) {c : ℕ} where
+    pub step-found : choose n i held (σ .allocs) ≡ Found c
+        → destStep n i next w held σ ≡ slices (assign (σ .allocs) c (getD (σ .ends) next 0) held) (set (σ .colours) next c) (set (σ .ends) next (getD (σ .ends) next 0 + 65536))
+    unfolding destStep
+    step-found e = rw (g, e)
+
+    pub step-free : choose n i held (σ .allocs) ≡ Free c
+        → destStep n i next w held σ ≡ slices (assign (σ .allocs) c (getD (σ .ends) next 0) held) (set (σ .colours) next c) (σ .ends)
+    unfolding destStep
+    step-free e =
+        rw (g, e, add-zero (getD (σ .ends) next 0), set-getD (σ .ends) next 0) refl
+
+-- what a destination asks for, of slices that are these, and of the next static
+pub ready-as : (n i k w : ℕ) (held : Held) {σ τ : Slices} → τ ≡ σ → {made m : ℕ} → made ≡ m → ReadyFor n i (k + m) w held σ → ReadyFor n i (k + made) w held τ
+ready-as n i k w held e f h = rw (e, f) h
 
 -- ---- destination by destination
 

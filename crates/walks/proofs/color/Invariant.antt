@@ -1,21 +1,21 @@
 -- The third walk: what its loop keeps, what a record may be asked for, and that the record takes it to the next.
 -- The lent slices are those of the definitions at i; `Stepped` takes them on, and the members grow by what the record reads.
-use Prim.Native.Nat.{ℕ, suc, _+_, _*_, _/_, _<_, _≤_}
+use Prim.Native.Nat.{ℕ, suc, _+_, _-_, _*_, _/_, _<_, _≤_}
 use mathlib.Core.Bool.{Bool, true}
 use mathlib.Core.List.{List}
-use mathlib.Core.Path.{_≡_, refl, ap, _∙_}
+use mathlib.Core.Path.{_≡_, refl, sym, ap, subst, _∙_}
 use native.Mathlib.Numerals.{add-one}
 use native.Mathlib.Omega.{arith}
-use lib.ListN.{length, getD}
+use lib.ListN.{length}
 use Rattle.mir.specs.declared.config.Settings.{Settings}
-use Rattle.mir.specs.declared.rename.Current.{Current}
+use Rattle.mir.specs.Inner.{currentsIn}
 use Rattle.mir.specs.Questions.{fieldsFit, gensFit, partnerFits}
 use Rattle.mir.specs.Records.{maxRegs, records, recordAt}
-use Rattle.mir.specs.Renaming.{staticsTo}
-use Rattle.mir.specs.Shapes.{dests}
+use Rattle.mir.specs.Renaming.{staticsTo, regsTo}
+use Rattle.mir.specs.Shapes.{any, dests}
 use Rattle.mir.proofs.Passing.{ListPasses, gens-fit-more}
 use Rattle.mir.proofs.Renaming.{statics-two}
-use Rattle.passes.specs.Color.{Setup, pairsFrom, joined, foundAt, colorTo}
+use Rattle.passes.specs.Color.{Setup, locOf, pairsFrom, joined, foundAt, colorTo}
 use Rattle.passes.specs.Create.{endsOf}
 use Rattle.passes.specs.Machine.{Passing}
 use Rattle.passes.proofs.ReadSet.{readsAt, members-next}
@@ -23,11 +23,16 @@ use Rattle.passes.proofs.Members.{few-members}
 use Rattle.passes.proofs.NeverEmpty.{ready-to}
 use Rattle.mir.specs.Answers.{over}
 use Rattle.passes.specs.Contract.{wordsOf}
-use Rattle.walks.specs.Walks.{Known, Slices, slices, Ready, sourceWords, wantedBy, recordStep, wasFound, readsOf, foundsTo, marked}
-use Rattle.walks.proofs.color.Dests.{marked-length}
+use Rattle.colours.specs.declared.masks.Masks.{Masks}
+use Rattle.colours.specs.Colours.{allocsIn}
+use Rattle.colours.specs.Masks.{Masked, Expired}
+use Rattle.colours.proofs.Expiring.{expired-stands}
+use Rattle.walks.specs.Walks.{KnownIn, Slices, slices, slicesIn, SlicesAre, Ready, Coloured, sourceWords, wantedBy, recordStep, wasFound, readsOf, foundsTo, marked}
+use Rattle.walks.proofs.color.Dests.{marked-length, lent-are, lent-masked}
 use Rattle.walks.proofs.Over.{over-length}
 use Rattle.walks.proofs.locs.Pairs.{SetHolds, set-pairs, set-length, set-within, set-grows, joined-grows}
-use Rattle.walks.proofs.color.Record.{all-statics, sources-fit, record-ready, record-step, found-after}
+use Rattle.walks.proofs.color.Record.{all-statics, sources-fit, sources-due, record-ready, record-step, found-after}
+use Rattle.walks.proofs.color.Sources.{space-below, coloured-in}
 use Rattle.walks.proofs.Registers.{Walked, passing-list, walked-known}
 
 -- a list's setup, by the number of its colours
@@ -39,9 +44,25 @@ abbrev pub slicesAt : ℕ → List ℕ → List ℕ → List ℕ → List ℕ �
 slicesAt n list table C0 E0 i =
     slices (colorTo (counted n list table) i .allocs) (over (colorTo (counted n list table) i .colours) C0) (over (marked (foundsTo (counted n list table) i) (endsOf list)) E0)
 
-pub record Colouring (n : ℕ) (list table C0 E0 S0 : List ℕ) (i : ℕ) (σ : Slices) (words : List ℕ) (members : ℕ) (regs : List Current) (statics : ℕ) : Type 0 where
+-- what is lent to the walk's steps, with the masks
+pub record State : Type 0 where
+  pub masks : Masks
+  pub lives : List ℕ
+  pub locs : List ℕ
+  pub colours : List ℕ
+  pub ends : List ℕ
+
+abbrev pub state : Masks → List ℕ → List ℕ → List ℕ → List ℕ → State
+state masks lives locs colours ends = record { masks = masks; lives = lives; locs = locs; colours = colours; ends = ends }
+
+-- it is the slices before record i; the masks tell of the colours at instruction j
+abbrev pub Holds : ℕ → List ℕ → List ℕ → List ℕ → List ℕ → ℕ → ℕ → State → Type 0
+Holds n list table C0 E0 i j st = SlicesAre n j (slicesAt n list table C0 E0 i) (st .masks) (st .lives) (st .locs) (st .colours) (st .ends)
+
+-- between two records the masks tell of the colours at the one before
+pub record Colouring (n : ℕ) (list table C0 E0 S0 : List ℕ) (i : ℕ) (st : State) (words : List ℕ) (members : ℕ) (regs : List ℕ) (statics : ℕ) : Type 0 where
   pub walked : Walked list i regs statics
-  pub slices-are : σ ≡ slicesAt n list table C0 E0 i
+  pub holds : Holds n list table C0 E0 i (i - 1) st
   pub set-holds : SetHolds S0 words members (colorTo (counted n list table) i .members)
 
 -- what the walk is called with: a list that passes, and slices that have room
@@ -97,18 +118,18 @@ module _ (g : Call) where
   pub ends-fit : length (endsOf list) ≤ length E0
   ends-fit = omega (arith, all-statics s list table passes C0 E0 wide, statics-two list (records list), g .ends-room)
 
-  module _ {i : ℕ} {σ : Slices} {words : List ℕ} {members : ℕ} {regs : List Current} {statics : ℕ} (inv : Colouring (s .«count_regs») list table C0 E0 S0 i σ words members regs statics) (le : i ≤ records list) where
-    pub colours-same : length (σ .colours) ≡ length C0
+  module _ {i : ℕ} {st : State} {words : List ℕ} {members : ℕ} {regs : List ℕ} {statics : ℕ} (inv : Colouring (s .«count_regs») list table C0 E0 S0 i st words members regs statics) (le : i ≤ records list) where
+    pub colours-same : length (st .colours) ≡ length C0
     colours-same =
-        ap (λ (τ : Slices). length (τ .colours)) (inv .slices-are)
+        ap length (inv .holds .colours)
         ∙ over-length (colorTo (counted n list table) i .colours) C0 (rw (ready-to s list table passes i le .next) (omega (arith, statics-two list i, g .colours-room)))
 
-    pub ends-same : length (σ .ends) ≡ length E0
+    pub ends-same : length (st .ends) ≡ length E0
     ends-same =
-        ap (λ (τ : Slices). length (τ .ends)) (inv .slices-are)
+        ap length (inv .holds .ends)
         ∙ over-length (marked (foundsTo (counted n list table) i) (endsOf list)) E0 (rw (marked-length (foundsTo (counted n list table) i) (endsOf list)) ends-fit)
 
-  module _ {i : ℕ} {σ : Slices} {words : List ℕ} {members : ℕ} {regs : List Current} {statics : ℕ} (inv : Colouring (s .«count_regs») list table C0 E0 S0 i σ words members regs statics) (l : i < length list / 8)
+  module _ {i : ℕ} {st : State} {words : List ℕ} {members : ℕ} {regs : List ℕ} {statics : ℕ} (inv : Colouring (s .«count_regs») list table C0 E0 S0 i st words members regs statics) (l : i < length list / 8)
       {rec : List ℕ} (e : rec ≡ recordAt list i) where
     record-gens : gensFit maxRegs rec ≡ true
     record-gens = rw e (gens-fit-more n maxRegs (recordAt list i) (passes .few) (passes .each i l .shape .gens))
@@ -116,38 +137,68 @@ module _ (g : Call) where
     first-fits : (m : ℕ) → records list * 2 ≤ m → statics + 2 ≤ m
     first-fits m q = omega (arith, inv .walked .statics-are, statics-two list i, q)
 
-    -- what colouring the record asks for
-    pub color-asks : (gensFit maxRegs rec ≡ true) × ((partnerFits rec ≡ true) × (Known regs (length (σ .colours))
-        × (((j : ℕ) → getD (sourceWords regs (σ .colours) rec) j 0 < 256 → getD (sourceWords regs (σ .colours) rec) j 0 < maxRegs)
-        × ((n ≤ maxRegs) × ((statics + 2 ≤ length (σ .colours)) × ((statics + 2 ≤ length (σ .ends)) × Ready n i statics (wantedBy regs rec σ) σ))))))
-    color-asks =
-        let le : i ≤ records list = omega arith in
-        let c = colours-same inv le in
-        let d = ends-same inv le in (
-          record-gens,
+    le : i ≤ records list
+    le = omega arith
+
+    known : KnownIn regs (length (st .colours))
+    known = walked-known (inv .walked) (omega (arith, colours-same inv le, first-fits (length C0) (g .colours-room)))
+
+    -- the sources' colours are those of the definitions
+    words-are : sourceWords (currentsIn regs) (st .colours) rec ≡ sourceWords (regsTo list i) (slicesAt n list table C0 E0 i .colours) (recordAt list i)
+    words-are = rw (inv .holds .colours, inv .walked .regs-are, e) refl
+
+    coloured : Coloured n (sourceWords (currentsIn regs) (st .colours) rec)
+    coloured = rw words-are (sources-fit s list table passes C0 E0 wide i l)
+
+    -- what making colours free asks for, and what it gives: the masks tell of the colours at this record
+    pub expire-asks : (gensFit maxRegs rec ≡ true) × (KnownIn regs (length (st .colours)) × Coloured maxRegs (sourceWords (currentsIn regs) (st .colours) rec))
+    expire-asks = (record-gens, (known, λ j z k. omega (arith, coloured j z k, passes .few)))
+
+    pub expire-gives : {freed : Masks} → Expired (st .masks) (sourceWords (currentsIn regs) (st .colours) rec) i (st .lives) freed
+        → Holds n list table C0 E0 i i (state freed (st .lives) (st .locs) (st .colours) (st .ends))
+    expire-gives x =
+        record {
+          allocs = expired-stands (inv .holds .allocs) x (omega arith) (rw words-are (sources-due s list table passes C0 E0 wide i l)) (coloured-in n _ coloured);
+          colours = inv .holds .colours;
+          ends = inv .holds .ends;
+        }
+
+    module _ {freed : Masks} (h : Holds n list table C0 E0 i i (state freed (st .lives) (st .locs) (st .colours) (st .ends))) where
+      -- what colouring the record asks for
+      pub color-asks : (gensFit maxRegs rec ≡ true) × ((partnerFits rec ≡ true) × ((locOf rec .space < any) × (KnownIn regs (length (st .colours))
+          × (Coloured n (sourceWords (currentsIn regs) (st .colours) rec)
+          × (Masked n i freed (allocsIn (st .lives) (st .locs))
+          × ((statics + 2 ≤ length (st .colours)) × ((statics + 2 ≤ length (st .ends))
+          × Ready n i statics (wantedBy (currentsIn regs) rec (slicesIn (st .lives) (st .locs) (st .colours) (st .ends))) (slicesIn (st .lives) (st .locs) (st .colours) (st .ends)))))))))
+      color-asks = (
+        record-gens,
+        (
+          rw e (passes .each i l .partner),
           (
-            rw e (passes .each i l .partner),
+            rw e (space-below table (recordAt list i) (passes .each i l .shape .fields)),
             (
-              walked-known (inv .walked) (omega (arith, c, first-fits (length C0) (g .colours-room))),
+              known,
               (
-                rw (inv .slices-are, inv .walked .regs-are, e) (sources-fit s list table passes C0 E0 wide i l),
+                coloured,
                 (
-                  passes .few,
+                  lent-masked h,
                   (
-                    rw c (first-fits (length C0) (g .colours-room)),
+                    rw (colours-same inv le) (first-fits (length C0) (g .colours-room)),
                     (
-                      rw d (first-fits (length E0) (g .ends-room)),
-                      rw (inv .slices-are, inv .walked .regs-are, inv .walked .statics-are, e) (record-ready s list table passes C0 E0 wide i l),
+                      rw (ends-same inv le) (first-fits (length E0) (g .ends-room)),
+                      subst (λ σ. Ready n i statics (wantedBy (currentsIn regs) rec σ) σ) (sym (lent-are h))
+                          (rw (inv .walked .regs-are, inv .walked .statics-are, e) (record-ready s list table passes C0 E0 wide i l)),
                     ),
                   ),
                 ),
               ),
             ),
           ),
-        )
+        ),
+      )
 
-    pub color-gives : recordStep n i statics regs rec σ ≡ slicesAt n list table C0 E0 (i + 1)
-    color-gives = rw (inv .slices-are, inv .walked .regs-are, inv .walked .statics-are, e) (record-step s list table passes C0 E0 wide i l)
+      pub color-gives : recordStep n i statics (currentsIn regs) rec (slicesIn (st .lives) (st .locs) (st .colours) (st .ends)) ≡ slicesAt n list table C0 E0 (i + 1)
+      color-gives = rw (lent-are h, inv .walked .regs-are, inv .walked .statics-are, e) (record-step s list table passes C0 E0 wide i l)
 
     pub found-gives : {ends : List ℕ} → ends ≡ slicesAt n list table C0 E0 (i + 1) .ends → wasFound (dests rec) statics ends ≡ foundAt (counted n list table) i (colorTo (counted n list table) i)
     found-gives q = rw (q, inv .walked .statics-are, e) (found-after s list table passes C0 E0 wide i l)

@@ -16,18 +16,19 @@ use borrow.Author.Tests.{ltb-false}
 use Rattle.mir.specs.declared.config.Settings.{Settings}
 use Rattle.mir.specs.declared.rename.Current.{Current}
 use Rattle.mir.specs.declared.rename.Current.the-variants.{Static, Unset}
-use Rattle.mir.specs.Records.{isGen, maxRegs, records, recordAt}
+use Rattle.mir.specs.Records.{isGen, records, recordAt}
 use Rattle.mir.specs.Renaming.{one, gens, staticsTo, regsTo}
 use Rattle.mir.specs.Shapes.{shapeFor, dests, sources}
 use Rattle.mir.proofs.Passing.{ListPasses}
 use Rattle.passes.specs.declared.alloc.Held.{Held}
-use Rattle.passes.specs.Color.{Coloring, Setup, setup, colourOf, sourceWord, heldBy, wantX, wantY, wanted, updateAllocs, locOf, isFound, choiceFor, afterDest, sourcesAt, destsAt, foundAll, foundAt, colorStep, colorTo}
+use Rattle.passes.specs.Color.{Coloring, Setup, setup, colourAt, colourOf, sourceWord, heldBy, wantX, wantY, wanted, updateAllocs, locOf, isFound, choiceFor, afterDest, sourcesAt, destsAt, foundAll, foundAt, colorStep, colorTo}
 use Rattle.passes.specs.Create.{endsOf}
 use Rattle.passes.proofs.Create.{In, names-to, ends-length, ends-below, statics-mono}
+use Rattle.passes.proofs.Due.{due}
 use Rattle.passes.proofs.NeverEmpty.{source-below, ready-to, choices-of, wanted-words}
 use Rattle.passes.proofs.Pool.{words}
 use Rattle.mir.specs.Answers.{over}
-use Rattle.walks.specs.Walks.{Slices, slices, mark, destSteps, Ready, sourceWords, wantedBy, recordStep, wasFound, foundsFor, foundsTo, marked}
+use Rattle.walks.specs.Walks.{Slices, slices, mark, destSteps, Ready, Coloured, sourceWords, wantedBy, recordStep, wasFound, foundsFor, foundsTo, marked}
 use Rattle.walks.proofs.Over.{over-get}
 use Rattle.walks.proofs.color.Dests.{slices-same, marked-length, marked-at, mark-shows, at, dests-at, ready-at}
 
@@ -59,11 +60,10 @@ module _ (regs : List Current) (cs ds : List ℕ) (h : (w t : ℕ) → getD regs
   same-sources-in (w ∷ ws) = ap (λ v. v ∷ map (sourceWord regs cs) ws) (same-source w) ∙ ap (λ r. sourceWord regs ds w ∷ r) (same-sources-in ws)
 
 -- words that are changed: each is a named register's, or below n
-map-below : (f : ℕ → ℕ) (n : ℕ) (ws : List ℕ) → ((w : ℕ) → isGen w ≡ false → f w ≡ w) → ((w : ℕ) → In w ws → isGen w ≡ true → f w < n) → 0 < n
-    → (j : ℕ) → getD (map f ws) j 0 < 256 → getD (map f ws) j 0 < n
-map-below f n [] k h z j l = z
-map-below f n (w ∷ ws) k h z (suc j) l = map-below f n ws k (λ v m. h v (inr m)) z j l
-map-below f n (w ∷ ws) k h z zero l = go (isGen w) refl
+map-below : (f : ℕ → ℕ) (n : ℕ) (ws : List ℕ) → ((w : ℕ) → isGen w ≡ false → f w ≡ w) → ((w : ℕ) → In w ws → isGen w ≡ true → f w < n) → Coloured n (map f ws)
+map-below f n [] k h j z l = absurd (omega arith)
+map-below f n (w ∷ ws) k h (suc j) z l = map-below f n ws k (λ v m. h v (inr m)) j (omega arith) l
+map-below f n (w ∷ ws) k h zero z l = go (isGen w) refl
   where
     go : (b : Bool) → isGen w ≡ b → f w < n
     go true e = h w (inl refl) e
@@ -116,12 +116,17 @@ module _ (s : Settings) (list table : List ℕ) (passes : ListPasses s list tabl
     same-sources =
         same-sources-in (regsTo list i) (over (st .colours) C0) (st .colours) (λ w t e. over-get (st .colours) C0 t 0 (rw colours-length (names-to list i .below w t e))) (sources (recordAt list i))
 
-    pub sources-fit : (j : ℕ) → getD (sourceWords (regsTo list i) (over (colorTo (setup s list table) i .colours) C0) (recordAt list i)) j 0 < 256
-        → getD (sourceWords (regsTo list i) (over (colorTo (setup s list table) i .colours) C0) (recordAt list i)) j 0 < maxRegs
-    sources-fit j =
+    pub sources-fit : Coloured (s .«count_regs») (sourceWords (regsTo list i) (over (colorTo (setup s list table) i .colours) C0) (recordAt list i))
+    sources-fit =
         rw same-sources
-        (map-below (sourceWord (regsTo list i) (colorTo (setup s list table) i .colours)) maxRegs (sources (recordAt list i)) (λ w e. rw e)
-        (λ w m e. omega (arith, source-below s list table passes i l w m e, passes .few)) (omega arith) j)
+        (map-below (sourceWord (regsTo list i) (colorTo (setup s list table) i .colours)) (s .«count_regs») (sources (recordAt list i)) (λ w e. rw e)
+        (source-below s list table passes i l))
+
+    -- a colour whose life ends here is one of them
+    pub sources-due : (c : ℕ) → c < s .«count_regs» → i - 1 < colourAt (colorTo (setup s list table) i .allocs) c .life
+        → colourAt (colorTo (setup s list table) i .allocs) c .life ≤ i
+        → In c (sourceWords (regsTo list i) (over (colorTo (setup s list table) i .colours) C0) (recordAt list i))
+    sources-due = rw same-sources (due s list table passes i l)
 
     -- what the destinations are wanted with
     same-wanted : wantedBy (regsTo list i) (recordAt list i) (slicesTo i) ≡ destsAt (setup s list table) i (colorTo (setup s list table) i)

@@ -11,7 +11,7 @@ use lib.Dec.{eqb}
 use lib.ListN.{length, getD, take, drop, length-append}
 use lib.Seq.{take-append-seam, drop-append-seam}
 use Rattle.mir.specs.declared.config.Settings.{Settings}
-use Rattle.mir.specs.declared.rename.Current.{Current}
+use Rattle.mir.specs.Inner.{currentsIn}
 use Rattle.mir.specs.Questions.{gensFit, partnerFits}
 use Rattle.mir.specs.Records.{maxRegs, records, recordAt, fixedMark}
 use Rattle.mir.specs.Renaming.{gens, staticsTo, regsTo}
@@ -26,7 +26,7 @@ use Rattle.passes.proofs.Lengths.{reduced-length, counts-add}
 use Rattle.walks.specs.declared.contract.Tally.{Tally}
 use Rattle.mir.specs.Answers.{over}
 use Rattle.passes.specs.Contract.{isKept, outcomeNumber, readSet, outAt, outcomeAt, reducedTo, reduced, countTo, countOf, membersOf, wordsOf}
-use Rattle.walks.specs.Walks.{Known, Colored, Contracted, Short, wasFound, rewritten, outcomeIn, foundsTo, marked, unmarked, tallied}
+use Rattle.walks.specs.Walks.{KnownIn, Colored, Contracted, Short, wasFound, rewritten, outcomeIn, foundsTo, marked, unmarked, tallied}
 use Rattle.walks.proofs.contract.Colours.{Grows, grows-get, founds-grow, rewritten-out}
 use Rattle.walks.proofs.color.Dests.{marked-length}
 use Rattle.walks.proofs.Over.{over-length, over-after}
@@ -183,13 +183,13 @@ module _ (g : Call) where
         ∙ over-length (reducedTo (fixedMark s) u i) O0 (omega (arith, reduced-length (fixedMark s) u i le, kept-few, g .room-out))
 
   module _ {i : ℕ} {ends out : List ℕ} {t : Tally} (inv : Contracting s list table E0 O0 i ends out t) (l : i < length list / 8)
-      {regs : List Current} {statics : ℕ} (w : Walked list i regs statics) {rec : List ℕ} (e : rec ≡ recordAt list i) where
+      {regs : List ℕ} {statics : ℕ} (w : Walked list i regs statics) {rec : List ℕ} (e : rec ≡ recordAt list i) where
     below : i ≤ records list
     below = omega arith
 
     -- what contracting the record asks for
     pub contract-asks : (gensFit maxRegs rec ≡ true) × ((partnerFits rec ≡ true) × ((statics + 2 ≤ length C) × ((statics + 2 ≤ length ends)
-        × (Known regs (length C) × ((members * 2 ≤ length S) × (Short t any × (t .records * 8 + 8 ≤ length out)))))))
+        × (KnownIn regs (length C) × ((members * 2 ≤ length S) × (Short t any × (t .records * 8 + 8 ≤ length out)))))))
     contract-asks =
         let k = statics-two list i in
         let q = counts-add (fixedMark s) u i in
@@ -231,12 +231,12 @@ module _ (g : Call) where
             let g = subst (λ n. Grows (foundsTo u (suc i)) (foundsTo u n)) k (founds-grow u (records list - suc i) (suc i)) in
             seen-past (staticsTo list i) (staticsTo list i + j) (foundsTo u (records list)) (omega arith) ∙ grows-get false (staticsTo list i + j) g (inside j z)
 
-    written-is : rewritten regs statics C rec ≡ outAt u i
+    written-is : rewritten (currentsIn regs) statics C rec ≡ outAt u i
     written-is =
         rw (w .regs-are, w .statics-are, e)
         (subst (λ cs. rewritten (regsTo list i) (staticsTo list i) cs (recordAt list i) ≡ outAt u i) (sym (col .colours-start)) (rewritten-out s list table passes C i l))
 
-    outcome-is : (fixed : ℕ) → fixed ≡ fixedMark s → outcomeIn fixed (pairsFrom S 0 members) regs statics C ends rec ≡ outcomeAt (fixedMark s) u i
+    outcome-is : (fixed : ℕ) → fixed ≡ fixedMark s → outcomeIn fixed (pairsFrom S 0 members) (currentsIn regs) statics C ends rec ≡ outcomeAt (fixedMark s) u i
     unfolding outcomeAt
     outcome-is fixed f = rw (f, members-are, found-is, written-is) refl
 
@@ -254,9 +254,9 @@ module _ (g : Call) where
         (put-after (reducedTo (fixedMark s) u i) (outAt u i) O0 (countTo Kept (fixedMark s) u i * 8) (isKept (outcomeAt (fixedMark s) u i)) (sym (reduced-length (fixedMark s) u i below)))
 
     pub contracting-next : (fixed : ℕ) → fixed ≡ fixedMark s → {ends' out' : List ℕ} {t' : Tally}
-        → t' ≡ tallied (outcomeIn fixed (pairsFrom S 0 members) regs statics C ends rec) t
+        → t' ≡ tallied (outcomeIn fixed (pairsFrom S 0 members) (currentsIn regs) statics C ends rec) t
         → ends' ≡ unmarked (dests rec) statics ends
-        → out' ≡ cond (isKept (outcomeIn fixed (pairsFrom S 0 members) regs statics C ends rec)) (take (t .records * 8) out ++ over (rewritten regs statics C rec) (drop (t .records * 8) out)) out
+        → out' ≡ cond (isKept (outcomeIn fixed (pairsFrom S 0 members) (currentsIn regs) statics C ends rec)) (take (t .records * 8) out ++ over (rewritten (currentsIn regs) statics C rec) (drop (t .records * 8) out)) out
         → Contracting s list table E0 O0 (i + 1) ends' out' t'
     contracting-next fixed f p q r =
         let k = outcome-is fixed f in

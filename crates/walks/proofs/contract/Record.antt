@@ -17,7 +17,7 @@ use Rattle.passes.specs.Color.{sourceWord}
 use Rattle.walks.specs.Walks.{destWords, sourceWords, rewritten}
 use Rattle.passes.proofs.Lengths.{dests-length, sources-length}
 use Rattle.walks.proofs.Words.{window-next}
-use Rattle.walks.proofs.Over.{map-snoc}
+use Rattle.colours.proofs.Mapped.{map-snoc}
 use Rattle.walks.proofs.contract.Partner.{dest-words-length}
 
 -- ---- a run of stores

@@ -4,14 +4,13 @@ use Prim.Native.Nat.{ℕ, zero, suc, _/_, _%_, _^_, _<_}
 use mathlib.Core.Bool.{Bool, true, false, cond, _||_, or-true, or-false}
 use mathlib.Core.List.{List, [], _∷_, _++_}
 use mathlib.Core.Logic.{_⊎_, inl, inr}
-use mathlib.Core.Path.{_≡_, refl, sym, _∙_}
-use native.Mathlib.Nat.{zero-div}
+use mathlib.Core.Path.{_≡_, refl, sym, ap, _∙_}
 use native.Mathlib.Omega.{arith}
 use lib.Bits.{bitOr}
 use lib.Dec.{ltb, eqb}
 use lib.ListN.{length, getD, set, replicate, length-set, length-replicate}
 use lib.Seq.{getD-set-same, getD-set-other}
-use borrow.Author.Tests.{ltb-true, eq-eqb}
+use borrow.Author.Tests.{ltb-true, eq-eqb, ne-eqb}
 use Rattle.mir.proofs.Clash.{clash}
 use Rattle.mir.proofs.Renaming.{and-both}
 use Rattle.passes.specs.declared.symbol.Loc.{Loc}
@@ -20,7 +19,8 @@ use Rattle.passes.proofs.Choice.{same-loc}
 use Rattle.passes.proofs.ReadSet.{member-snoc}
 use Rattle.passes.proofs.Update.{same-or}
 use Rattle.walks.specs.Walks.{isNear, cellOf, bitAt, withBit, Indexed, noted}
-use Rattle.walks.proofs.Bits.{digit-same, digit-other}
+use Rattle.colours.specs.Masks.{hasBit}
+use Rattle.colours.proofs.Bits.{has-none, has-with}
 
 module _ (l : Loc) (h : isNear l ≡ true) where
   pub near-space : l .space < 3
@@ -45,7 +45,7 @@ unfolding isMember
 indexed-none =
     record {
       size = length-replicate {A = ℕ} 3072 0;
-      tells = λ l h. rw (zero-at 3072 (cellOf l / 64), zero-div (2 ^ (cellOf l % 64)));
+      tells = λ l h. rw (zero-at 3072 (cellOf l / 64)) (has-none (cellOf l % 64));
     }
 
 -- ---- one member more
@@ -58,16 +58,20 @@ module _ (seen : List ℕ) (c : ℕ) (h : c / 64 < length seen) where
   new-word : getD (withBit seen c) (c / 64) 0 ≡ bitOr old (2 ^ (c % 64))
   new-word = getD-set-same seen (c / 64) (bitOr old (2 ^ (c % 64))) 0 h
 
-  bit-same : bitAt (withBit seen c) c ≡ 1
-  bit-same = rw new-word (digit-same old (c % 64))
+  -- one of the bits of that word
+  new-bit : (j : ℕ) → hasBit (getD (withBit seen c) (c / 64) 0) j ≡ cond (eqb j (c % 64)) true (hasBit old j)
+  new-bit j = ap (λ x. hasBit x j) new-word ∙ has-with old (c % 64) j
+
+  bit-same : bitAt (withBit seen c) c ≡ true
+  bit-same = new-bit (c % 64) ∙ rw (eq-eqb (c % 64) (c % 64) refl)
 
   bit-other : (d : ℕ) → (d ≡ c → ⊥) → bitAt (withBit seen c) d ≡ bitAt seen d
   bit-other d other = go (same-or (d / 64) (c / 64))
     where
       go : (d / 64 ≡ c / 64) ⊎ (d / 64 ≡ c / 64 → ⊥) → bitAt (withBit seen c) d ≡ bitAt seen d
       go (inl e) =
-          let differ : c % 64 ≡ d % 64 → ⊥ = λ q. other (omega (arith, q, e)) in
-          rw (e, new-word) (digit-other old (c % 64) (d % 64) differ)
+          let differ : d % 64 ≡ c % 64 → ⊥ = λ q. other (omega (arith, q, e)) in
+          rw e (new-bit (d % 64) ∙ rw (ne-eqb (d % 64) (c % 64) differ))
       go (inr e) = rw (getD-set-other seen (c / 64) (d / 64) (bitOr old (2 ^ (c % 64))) 0 e)
 
 apart : (l m : Loc) → isNear m ≡ true → isNear l ≡ true → sameLoc l m ≡ false → cellOf m ≡ cellOf l → ⊥
@@ -83,7 +87,7 @@ module _ (seen : List ℕ) (ms : List Loc) (l : Loc) (h : Indexed seen ms) where
   noted-size false = h .size
 
   tell : (m : Loc) → isNear m ≡ true → (b : Bool) → isNear l ≡ b → (s : Bool) → sameLoc l m ≡ s
-      → eqb (bitAt (cond b (withBit seen (cellOf l)) seen) (cellOf m)) 1 ≡ (isMember m ms || s)
+      → bitAt (cond b (withBit seen (cellOf l)) seen) (cellOf m) ≡ (isMember m ms || s)
   tell m k true n true e =
       let p = same-loc l m e in
       rw (← p, bit-same seen (cellOf l) (word-in l n seen (h .size))) (sym (or-true (isMember l ms)))

@@ -28,7 +28,8 @@ returns-2 c =
 check-sources-requires : tie.Need-check-sources-requires
 check-sources-requires c κs =
     let e = c .before .before in
-    gens-fit-more _ maxRegs _ (start (e .before) .pre) (passes e .gens)
+    let s = start (e .before) in
+    (s .pre .0, gens-fit-more _ maxRegs _ (s .pre .1) (passes e .gens))
 
 returns-3 : tie.Need-returns-3
 returns-3 c =

@@ -9,6 +9,7 @@ use mathlib.Core.Path.{_≡_, refl, _∙_}
 use native.Mathlib.Numerals.{add-one}
 use native.Mathlib.Omega.{arith}
 use borrow.Author.Needs.{needs}
+use denote.Ref.{now}
 use lib.ListN.{length, getD, take, drop}
 use Rattle.mir.specs.Inner.{currentsIn}
 use Rattle.mir.specs.Folds.{allBelow, all, firstNo}
@@ -37,8 +38,8 @@ check-source-requires : tie.Need-check-source-requires Inv-loop μ-loop
 check-source-requires c κs =
     let s = c .before .before in
     let h = within s in
-    let fit = rw all-words at (s .pre .1) in
-    gen-below maxRegs _ (all-at _ (s .args .count) (c .before .loop .j) fit (c .loop-test .taken))
+    let fit = rw all-words at (s .pre .1 .1) in
+    (s .pre .0, gen-below maxRegs _ (all-at _ (s .args .count) (c .before .loop .j) fit (c .loop-test .taken)))
 
 -- the number of one source is 9 only by question 9, and else it is question 15's
 nine-no : (n t : Bool) {by : ℕ} → by ≡ firstNo ((9, n) ∷ (15, t) ∷ []) → by ≡ 9 → n ≡ false
@@ -60,20 +61,20 @@ one-more a false e f (inr (h, g)) = absurd (omega arith)
 
 -- what is asked of source k
 abbrev has-static : tie.Start Inv-loop μ-loop → ℕ → Bool
-has-static s k = named (currentsIn (s .args .regs)) (getD (s .args .t3) (s .args .from + k) 0)
+has-static s k = named (currentsIn (now (s .args .regs))) (getD (s .args .t3) (s .args .from + k) 0)
 
 abbrev is-since : tie.Start Inv-loop μ-loop → ℕ → Bool
-is-since s k = since (s .args .past) (currentsIn (s .args .regs)) (getD (s .args .t3) (s .args .from + k) 0)
+is-since s k = since (s .args .past) (currentsIn (now (s .args .regs))) (getD (s .args .t3) (s .args .from + k) 0)
 
 -- the sources from `from` on, one by one
 named-words : (s : tie.Start Inv-loop μ-loop) →
     let a = s .args in
-    all (named (currentsIn (a .regs))) (take (a .count) (drop (a .from) (a .t3))) ≡ allBelow (a .count) (has-static s)
+    all (named (currentsIn (now (a .regs)))) (take (a .count) (drop (a .from) (a .t3))) ≡ allBelow (a .count) (has-static s)
 named-words s = all-words _ (s .args .t3) (s .args .from) (s .args .count) (within s)
 
 since-words : (s : tie.Start Inv-loop μ-loop) →
     let a = s .args in
-    all (since (a .past) (currentsIn (a .regs))) (take (a .count) (drop (a .from) (a .t3))) ≡ allBelow (a .count) (is-since s)
+    all (since (a .past) (currentsIn (now (a .regs)))) (take (a .count) (drop (a .from) (a .t3))) ≡ allBelow (a .count) (is-since s)
 since-words s = all-words _ (s .args .t3) (s .args .from) (s .args .count) (within s)
 
 loop-holds : tie.Need-loop-holds Inv-loop μ-loop

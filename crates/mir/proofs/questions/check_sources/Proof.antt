@@ -13,7 +13,7 @@ check-source-words-requires : tie.Need-check-source-words-requires
 unfolding sources
 check-source-words-requires c κs =
     let f = c .before in
-    (omega (arith, room _ (f .shape-of .ensures)), rw (f .shape-of .ensures) (gens-fit-both maxRegs _ (f .before .pre) .1))
+    (f .before .pre .0, (omega (arith, room _ (f .shape-of .ensures)), rw (f .shape-of .ensures) (gens-fit-both maxRegs _ (f .before .pre .1) .1)))
 
 returns : tie.Need-returns
 unfolding sourcesNamed sourcesSince sources

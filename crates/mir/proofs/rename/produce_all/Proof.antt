@@ -20,21 +20,21 @@ two a = dests-told (a .before .before .dests-of .ensures) (a .x2 .given .1)
 
 produce-requires : tie.Need-produce-requires
 produce-requires c κs =
-    let a = c .before in
+    let a = c .before .before in
     (dest-below maxRegs _ (a .before .before .before .pre .0) (one a), omega arith)
 
 produce-requires-2 : tie.Need-produce-requires-2
 produce-requires-2 c κs =
-    let a = c .before in
+    let a = c .before .before in
     (dests-below maxRegs _ (a .before .before .before .pre .0) (two a) .0, omega arith)
 
 add-produce : tie.Need-add-produce
 add-produce c =
-    rw (c .count-static .ensures) (omega (arith, one-le (c .before .before .before .x2 .given .0 .0)))
+    rw (c .count-static .ensures) (omega (arith, one-le (c .before .before .before .before .before .x2 .given .0 .0)))
 
 produce-requires-3 : tie.Need-produce-requires-3
 produce-requires-3 c κs =
-    let a = c .before .before .before in
+    let a = c .before .before .before .before .before in
     (dests-below maxRegs _ (a .before .before .before .pre .0) (two a) .1, rw (c .count-static .ensures) (omega (arith, one-le (a .x2 .given .0 .0))))
 
 returns : tie.Need-returns
@@ -43,13 +43,14 @@ returns c = rw (dests-told (c .before .before .dests-of .ensures) (c .enum-told 
 
 returns-2 : tie.Need-returns-2
 unfolding produced
-returns-2 c = rw (one (c .before .before)) (c .produce .ensures)
+returns-2 c = rw (one (c .before .before .before)) (c .produce .ensures)
 
 returns-3 : tie.Need-returns-3
 unfolding produced
 returns-3 c =
     let n = c .before in
-    rw (two (n .before .before .before), ← (n .count-static .ensures), ← (n .before .produce2 .ensures)) (c .produce3 .ensures)
+    let p = n .before .before in
+    rw (two (p .before .before .before), ← (n .count-static .ensures), ← (p .produce2 .ensures)) (c .produce3 .ensures)
 
 pub produce-all-spec : {M : Type 1} → statement M
 produce-all-spec =

@@ -13,13 +13,14 @@ use Rattle.mir.proofs.rename.rename.Tie as tie
 returns : tie.Need-returns
 unfolding renamed
 returns c =
-    let k = getD (c .before .args .t2) 0 0 in
-    ⊎-elim (λ (e : k ≡ call). simp (eq-eqb k call e)) (λ (e : k ≡ label). simp (eq-eqb k label e, or-true)) (c .match .keys1)
+    let m = c .before in
+    let k = getD (m .before .args .t2) 0 0 in
+    ⊎-elim (λ (e : k ≡ call). simp (eq-eqb k call e)) (λ (e : k ≡ label). simp (eq-eqb k label e, or-true)) (m .match .keys1)
 
 returns-2 : tie.Need-returns-2
 unfolding renamed
 returns-2 c =
-    let r = c .before .match .rest .1 in
+    let r = c .before .before .match .rest .1 in
     simp (ne-eqb _ _ (λ e. r (inl e)), ne-eqb _ _ (λ e. r (inr e))) (c .produce-all .ensures)
 
 pub rename-spec : {M : Type 1} → statement M

@@ -1,17 +1,15 @@
 -- `walks::color::color` meets its contract: before each record the slices and the set are the definitions'.
 -- By what `Colouring` says of a record.
-use Rattle.mir.specs.Inner.{currentsIn}
 use Rattle.mir.proofs.Renaming.{statics-two, gens-two}
 use Prim.Native.Nat.{ℕ, _+_, _*_, _/_, _-_, _<_, _≤_}
-use mathlib.Core.Path.{_≡_, refl, sym, ap, subst, _∙_}
+use mathlib.Core.Path.{_≡_, refl, sym, subst, _∙_}
 use native.Mathlib.Omega.{arith}
 use lib.ListN.{length}
 use Rattle.passes.specs.Color.{colorTo, foundAt}
 use Rattle.passes.specs.Contract.{coloursOf, membersOf, wordsOf}
-use Rattle.walks.specs.Slots.{allocsIn}
-use Rattle.walks.specs.Walks.{Indexed, Slices, slices, Passes, foundsTo, marked, recordStep}
-use Rattle.walks.proofs.color.Invariant.{reads-are, Call, Colouring, counted, setupOf, slicesOf, color-asks, color-gives, found-gives, read-asks, read-gives, colours-same, ends-same}
-use Rattle.walks.proofs.color.Dests.{slices-same}
+use Rattle.walks.specs.Walks.{Indexed, SlicesAre, Passes, foundsTo, marked}
+use Rattle.walks.proofs.color.Invariant.{Call, state, Holds, Colouring, counted, setupOf, expire-asks, expire-gives, color-asks, color-gives}
+use Rattle.walks.proofs.color.Invariant.{found-gives, reads-are, read-asks, read-gives, colours-same, ends-same}
 use Rattle.walks.proofs.locs.Pairs.{set-length, set-pairs}
 use Rattle.passes.proofs.NeverEmpty.{ready-to}
 use Rattle.walks.proofs.Registers.{walked-first, walked-next, few-words, gens-fit, few-statics, passing-list}
@@ -20,13 +18,13 @@ use Rattle.walks.proofs.color.color.Statement.{statement}
 use Rattle.walks.proofs.color.color.Tie as tie
 
 abbrev Inv-loop : tie.InvT-loop
-Inv-loop list table colours₀ ends₀ set₀ seen₀ n count regs₀ statics₀ allocs₀ members₀ i₀ colours ends set seen regs statics allocs members i =
+Inv-loop list table colours₀ ends₀ set₀ seen₀ n count regs₀ statics₀ lives₀ locs₀ masks₀ members₀ i₀ colours ends set seen regs statics lives locs masks members i =
     (i ≤ count)
-    × (Colouring n list table colours₀ ends₀ set₀ i (slices (allocsIn allocs) colours ends) set members (currentsIn regs) statics
+    × (Colouring n list table colours₀ ends₀ set₀ i (state masks lives locs colours ends) set members regs statics
     × (Indexed seen (colorTo (counted n list table) i .members) × (length seen ≡ length seen₀)))
 
 abbrev μ-loop : tie.MeasureT-loop
-μ-loop list table colours₀ ends₀ set₀ seen₀ n count regs₀ statics₀ allocs₀ members₀ i₀ colours ends set seen regs statics allocs members i = count - i
+μ-loop list table colours₀ ends₀ set₀ seen₀ n count regs₀ statics₀ lives₀ locs₀ masks₀ members₀ i₀ colours ends set seen regs statics lives locs masks members i = count - i
 
 -- what the walk was called with
 abbrev called : tie.Start Inv-loop μ-loop → Call
@@ -53,18 +51,20 @@ cast-n : tie.Need-cast-n Inv-loop μ-loop
 cast-n c = search needs
 
 reset-allocs-requires : tie.Need-reset-allocs-requires Inv-loop μ-loop
-reset-allocs-requires c κs = search needs
+reset-allocs-requires c κs =
+    let g = called (c .before .before .before .before .before .before .before .before .before) in
+    passing-list (g .settings) (g .list) (g .table) (g .passing) .few
 
 loop-holds : tie.Need-loop-holds Inv-loop μ-loop
 unfolding colorTo foundsTo marked wordsOf
 loop-holds c =
-    let a = c .before .before .before .before .before .before .before .before in
+    let a = c .before .before .before .before .before .before .before .before .before .before in
     let g = called a in (
       search needs,
       (
         record {
           walked = walked-first (g .list);
-          slices-are = slices-same (slicesOf g 0) (c .reset-allocs .ensures) refl (a .pre .1 .1 .1 .1 .1);
+          holds = record { allocs = c .reset-allocs .ensures 0; colours = refl; ends = a .pre .1 .1 .1 .1 .1 };
           set-holds = record { starts = refl; counted = refl; room = omega arith };
         },
         (a .pre .0, refl),
@@ -77,13 +77,16 @@ record-at-requires c κs = omega arith
 -- ---- one turn: the record, and then the calls in their order
 
 abbrev call : tie.At-loop Inv-loop μ-loop → Call
-call l = called (l .before .before .before .before .before .before .before .before .before)
+call l = called (l .before .before .before .before .before .before .before .before .before .before .before)
 
 abbrev turn : tie.After-record-at Inv-loop μ-loop → tie.At-loop Inv-loop μ-loop
 turn r = r .before .before
 
-abbrev colored : tie.After-color-record Inv-loop μ-loop → tie.After-record-at Inv-loop μ-loop
-colored k = k .before .before .before
+abbrev freed : tie.After-expire-sources Inv-loop μ-loop → tie.After-record-at Inv-loop μ-loop
+freed x = x .before .before .before .before
+
+abbrev colored : tie.After-color-record Inv-loop μ-loop → tie.After-expire-sources Inv-loop μ-loop
+colored k = k .before .before .before .before .before .before
 
 abbrev found : tie.After-was-found Inv-loop μ-loop → tie.After-color-record Inv-loop μ-loop
 found f = f .before .before .before .before .before .before
@@ -91,8 +94,8 @@ found f = f .before .before .before .before .before .before
 abbrev read : tie.After-read-record Inv-loop μ-loop → tie.After-was-found Inv-loop μ-loop
 read d = d .before .before .before
 
-abbrev recordOf : tie.After-read-record Inv-loop μ-loop → tie.After-record-at Inv-loop μ-loop
-recordOf d = colored (found (read d))
+abbrev recordOf : tie.After-color-record Inv-loop μ-loop → tie.After-record-at Inv-loop μ-loop
+recordOf k = freed (colored k)
 
 module _ (r : tie.After-record-at Inv-loop μ-loop) where
   abbrev g : Call
@@ -113,46 +116,68 @@ module _ (r : tie.After-record-at Inv-loop μ-loop) where
 cast-first : tie.Need-cast-first Inv-loop μ-loop
 cast-first r = omega (arith, statics-few r, words-few r)
 
+cast-expire-sources : tie.Need-cast-expire-sources Inv-loop μ-loop
+cast-expire-sources c =
+    let r = c .before in
+    omega (arith, in-list r, words-few r)
+
+expire-sources-requires : tie.Need-expire-sources-requires Inv-loop μ-loop
+expire-sources-requires c κs =
+    let r = c .before .before .before in
+    expire-asks (g r) (turn r .loop .inv .1 .0) (in-list r) (r .record-at .ensures)
+
+-- the masks tell of the colours at the record
+at-record : (x : tie.After-expire-sources Inv-loop μ-loop) →
+    let r = freed x in
+    let l = turn r .loop in
+    Holds (g r .settings .«count_regs») (g r .list) (g r .table) (g r .colours) (g r .ends) (i r) (i r) (state (x .expire-sources .result) (l .lives) (l .locs) (l .colours) (l .ends))
+at-record x =
+    let r = freed x in
+    expire-gives (g r) (turn r .loop .inv .1 .0) (in-list r) (r .record-at .ensures) (x .expire-sources .ensures)
+
 cast-color-record : tie.Need-cast-color-record Inv-loop μ-loop
-cast-color-record r = omega (arith, in-list r, words-few r)
+cast-color-record c =
+    let r = freed (c .before) in
+    omega (arith, in-list r, words-few r)
 
 color-record-requires : tie.Need-color-record-requires Inv-loop μ-loop
 color-record-requires c κs =
-    let r = c .before .before in
-    color-asks (g r) (turn r .loop .inv .1 .0) (in-list r) (r .record-at .ensures)
+    let x = c .before .before .before .before .before in
+    let r = freed x in
+    color-asks (g r) (turn r .loop .inv .1 .0) (in-list r) (r .record-at .ensures) (at-record x)
 
 was-found-requires : tie.Need-was-found-requires Inv-loop μ-loop
 was-found-requires c κs =
     let k = c .before .before .before .before .before in
-    let r = colored k in
+    let r = recordOf k in
     let inv = turn r .loop .inv in
-    omega (arith, statics-few r, g r .ends-room, ends-same (g r) (inv .1 .0) (inv .0), k .color-record .kept .1 .1 .1 .1 .1 .1 .1 .0)
+    omega (arith, statics-few r, g r .ends-room, ends-same (g r) (inv .1 .0) (inv .0), k .color-record .kept .1 .1 .1 .1 .1 .1 .1 .1 .1 .0)
 
--- the slices after the record
+-- what is lent after the record, and that the masks tell of the colours there
 after : (k : tie.After-color-record Inv-loop μ-loop) →
+    let r = recordOf k in
     let last = k .color-record .last .1 .1 .1 .1 .1 .1 in
-    slices (allocsIn (k .color-record .result)) (last .0) (last .1 .0) ≡ slicesOf (g (colored k)) (i (colored k) + 1)
+    Holds (g r .settings .«count_regs») (g r .list) (g r .table) (g r .colours) (g r .ends) (i r + 1) (i r) (state (k .color-record .result) (last .0) (last .1 .0) (last .1 .1 .0) (last .1 .1 .1 .0))
 after k =
-    let r = colored k in
-    let l = turn r .loop in
-    let e = k .color-record .ensures in
-    let σ = slices (allocsIn (l .allocs)) (l .colours) (l .ends) in
-    slices-same (recordStep (g r .settings .«count_regs») (l .i) (l .statics) (currentsIn (l .regs)) (r .record-at .result) σ) (e .0) (e .1 .0) (e .1 .1)
-    ∙ color-gives (g r) (l .inv .1 .0) (in-list r) (r .record-at .ensures)
+    let r = recordOf k in
+    let n = g r .settings .«count_regs» in
+    let last = k .color-record .last .1 .1 .1 .1 .1 .1 in
+    subst (λ σ. SlicesAre n (i r) σ (k .color-record .result) (last .0) (last .1 .0) (last .1 .1 .0) (last .1 .1 .1 .0))
+    (color-gives (g r) (turn r .loop .inv .1 .0) (in-list r) (r .record-at .ensures) (at-record (colored k))) (k .color-record .ensures)
 
 found-is : (f : tie.After-was-found Inv-loop μ-loop) →
-    let r = colored (found f) in
+    let r = recordOf (found f) in
     f .was-found .result ≡ foundAt (setupOf (g r)) (i r) (colorTo (setupOf (g r)) (i r))
 found-is f =
     let k = found f in
-    let r = colored k in
+    let r = recordOf k in
     f .was-found .ensures
-    ∙ found-gives (g r) (turn r .loop .inv .1 .0) (in-list r) (r .record-at .ensures) (ap (λ (σ : Slices). σ .ends) (after k))
+    ∙ found-gives (g r) (turn r .loop .inv .1 .0) (in-list r) (r .record-at .ensures) (after k .ends)
 
 read-record-requires : tie.Need-read-record-requires Inv-loop μ-loop
 read-record-requires c κs =
     let f = c .before .before in
-    let r = colored (found f) in
+    let r = recordOf (found f) in
     let inv = turn r .loop .inv in (
       rw (set-pairs (inv .1 .0 .set-holds)) (inv .1 .1 .0),
       read-asks (g r) (inv .1 .0) (in-list r) (r .record-at .ensures) (found-is f),
@@ -160,7 +185,7 @@ read-record-requires c κs =
 
 rename-requires : tie.Need-rename-requires Inv-loop μ-loop
 rename-requires c κs =
-    let r = recordOf (c .before .before .before .before) in
+    let r = recordOf (found (read (c .before .before .before .before .before))) in
     (gens-fit (g r .list) (listed (g r)) (i r) (in-list r) (r .record-at .ensures), omega (arith, statics-few r, words-few r))
 
 count-statics-requires : tie.Need-count-statics-requires Inv-loop μ-loop
@@ -168,21 +193,24 @@ count-statics-requires c κs = search needs
 
 add-statics : tie.Need-add-statics Inv-loop μ-loop
 add-statics c =
-    let r = recordOf (c .before .before .before .before .before .before) in
+    let r = recordOf (found (read (c .before .before .before .before .before .before .before))) in
     rw (c .count-statics .ensures) (omega (arith, statics-few r, words-few r, gens-two (r .record-at .result)))
 
 add-i : tie.Need-add-i Inv-loop μ-loop
 add-i c =
-    let r = recordOf (c .before .before .before .before .before .before) in
+    let r = recordOf (found (read (c .before .before .before .before .before .before .before))) in
     omega (arith, in-list r, words-few r)
 
 loop-less : tie.Need-loop-less Inv-loop μ-loop
-loop-less c = search needs
+loop-less c =
+    let r = recordOf (found (read (c .before .before .before .before .before .before .before))) in
+    omega (arith, in-list r)
 
 loop-again : tie.Need-loop-again Inv-loop μ-loop
 loop-again c =
-    let d = c .before .before .before .before .before .before in
-    let r = recordOf d in
+    let d = c .before .before .before .before .before .before .before in
+    let k = found (read d) in
+    let r = recordOf k in
     let inv = turn r .loop .inv in
     let e = r .record-at .ensures in
     let f = found-is (read d) in
@@ -191,7 +219,9 @@ loop-again c =
       (
         record {
           walked = walked-next (r .record-at .result) (inv .1 .0 .walked) e (c .before .rename .ensures) (c .count-statics .ensures);
-          slices-are = after (found (read d));
+          holds =
+              let back : i r + 1 - 1 ≡ i r = omega arith in
+              rw back (after k);
           set-holds = read-gives (g r) (inv .1 .0) (in-list r) e f (q .1 .0) (q .1 .1);
         },
         (
@@ -203,8 +233,8 @@ loop-again c =
 
 -- ---- after the last turn
 
-cast-t21 : tie.Need-cast-t21 Inv-loop μ-loop
-cast-t21 c =
+cast-t23 : tie.Need-cast-t23 Inv-loop μ-loop
+cast-t23 c =
     let l = c .before in
     let h = call l in
     let p = passing-list (h .settings) (h .list) (h .table) (h .passing) in
@@ -235,13 +265,13 @@ returns c =
     let v = rw e at (l .inv .1 .0) in
     let p = passing-list (h .settings) (h .list) (h .table) (h .passing) in
     let r = ready-to (h .settings) (h .list) (h .table) p (length (h .list) / 8) (omega arith) in
-    let σ = v .slices-are in (
+    let σ = v .holds in (
       rw e at (l .inv .1 .1 .0),
       (
         v .walked .statics-are ∙ sym (r .next),
         (
           v .set-holds .counted,
-          (ap (λ (τ : Slices). τ .colours) σ, (ap (λ (τ : Slices). τ .ends) σ, v .set-holds .starts)),
+          (σ .colours, (σ .ends, v .set-holds .starts)),
         ),
       ),
     )
@@ -257,6 +287,8 @@ color-spec =
     loop-holds
     record-at-requires
     cast-first
+    cast-expire-sources
+    expire-sources-requires
     cast-color-record
     color-record-requires
     was-found-requires
@@ -267,7 +299,7 @@ color-spec =
     add-i
     loop-less
     loop-again
-    cast-t21
+    cast-t23
     same-length
     same-length-2
     same-length-3

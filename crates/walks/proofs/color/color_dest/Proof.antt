@@ -1,124 +1,125 @@
 -- `walks::color::color_dest` meets its contract: by what the choice comes to; an empty pool is ruled out by what is required.
-use mathlib.Core.Path.{ap, refl, sym, subst, _∙_}
-use lib.ListN.{getD, set}
-use lib.Seq.{set-getD}
-use native.Mathlib.Nat.{add-zero}
+use Prim.Native.Nat.{_<_}
+use mathlib.Core.Path.{_≡_, refl, sym, subst, _∙_}
 use native.Mathlib.Omega.{arith}
 use borrow.Author.Tests.{lt-ltb, le-ltb}
+use borrow.Author.Needs.{needs}
+use denote.Ref.{now}
+use Rattle.passes.specs.declared.alloc.Choice.the-variants.{Found, Free}
 use Rattle.passes.specs.Color.{choose}
 use Rattle.passes.proofs.Choice.{choose-found, choose-free}
-use Rattle.walks.specs.Walks.{Picks, destStep}
-use Rattle.walks.specs.Slots.{allocsIn}
-use borrow.Author.Needs.{needs}
+use Rattle.colours.specs.Colours.{heldIn, allocsIn, Stands}
+use Rattle.walks.specs.Walks.{Slices, slicesIn, Picks}
+use Rattle.walks.proofs.color.Dests.{step-named, step-found, step-free}
 use Rattle.walks.proofs.color.color_dest.Statement.{statement}
 use Rattle.walks.proofs.color.color_dest.Tie as tie
 
+-- ---- where the choice is made: the call before it
+
+abbrev chosenAt : tie.After-choose → tie.Else1
+chosenAt k = k .before .before .before
+
+abbrev start : tie.Else1 → tie.Start
+start e = e .before .before .before
+
+-- what was lent
+abbrev before : tie.Start → Slices
+before s = slicesIn (now (s .args .lives)) (now (s .args .locs)) (now (s .args .colours)) (now (s .args .ends))
+
+abbrev standing : (s : tie.Start) → Stands (s .args .n) (s .args .i) (s .args .masks) (now (s .args .lives)) (now (s .args .locs)) (allocsIn (now (s .args .lives)) (now (s .args .locs)))
+standing s = record { same = refl; masked = s .pre .0 }
+
+-- the code's choice is the definition's
+choice-is : (k : tie.After-choose) →
+    let s = start (chosenAt k) in
+    k .choose .result ≡ choose (s .args .n) (s .args .i) (heldIn (s .args .want)) (allocsIn (now (s .args .lives)) (now (s .args .locs)))
+choice-is k =
+    let s = start (chosenAt k) in
+    k .choose .ensures (s .args .i) (now (s .args .lives)) _ (standing s)
+
 returns : tie.Need-returns
-unfolding destStep
-returns c = rw (le-ltb _ _ (c .if1 .taken)) (refl, (refl, refl))
-
-mul-end : tie.Need-mul-end
-mul-end c = search needs
-
-slice-read-end : tie.Need-slice-read-end
-slice-read-end c = search needs
+returns c =
+    let s = c .before .before .before in
+    rw (step-named (s .args .n) (s .args .i) (s .args .next) (s .args .w) (heldIn (s .args .want)) (before s) (le-ltb _ _ (c .if1 .taken)))
+    (record { allocs = standing s; colours = refl; ends = refl })
 
 choose-requires : tie.Need-choose-requires
-choose-requires c κs = search needs
-
-enum-known-choice : tie.Need-enum-known-choice
-enum-known-choice c = search needs
-
-mul-colours : tie.Need-mul-colours
-mul-colours c = search needs
-
-slice-write-colours : tie.Need-slice-write-colours
-slice-write-colours c = search needs
+choose-requires c κs = c .before .before .before .before .before .pre .0 .few
 
 add-ends : tie.Need-add-ends
 add-ends c =
-    let k = c .before .before .before .before .before .before .before .before .pre .1 .1 .1 (lt-ltb _ _ (c .before .before .before .before .before .if1 .left)) .1 in
-    omega (arith, k)
+    let e = chosenAt (c .before .before .before) in
+    omega (arith, start e .pre .1 .1 .1 (lt-ltb _ _ (e .if1 .left)) .1)
 
-mul-ends : tie.Need-mul-ends
-mul-ends c = search needs
+-- ---- a colour that is found, and one that is free
 
-slice-write-ends : tie.Need-slice-write-ends
-slice-write-ends c = search needs
+module _ (x : tie.After-choice) where
+  abbrev found-start : tie.Start
+  found-start = start (chosenAt (x .before .before))
+
+  found-is : choose (found-start .args .n) (found-start .args .i) (heldIn (found-start .args .want)) (before found-start .allocs) ≡ Found (x .choice .given .0 .0)
+  found-is = sym (choice-is (x .before .before)) ∙ x .choice .given .1
+
+  found-below : x .choice .given .0 .0 < found-start .args .n
+  found-below = choose-found (found-start .args .n) (found-start .args .i) (before found-start .allocs) (heldIn (found-start .args .want)) _ found-is .0
+
+module _ (x : tie.After-choice2) where
+  abbrev free-start : tie.Start
+  free-start = start (chosenAt (x .before .before))
+
+  free-is : choose (free-start .args .n) (free-start .args .i) (heldIn (free-start .args .want)) (before free-start .allocs) ≡ Free (x .choice2 .given .0 .0)
+  free-is = sym (choice-is (x .before .before)) ∙ x .choice2 .given .1
+
+  free-below : x .choice2 .given .0 .0 < free-start .args .n
+  free-below = choose-free (free-start .args .n) (free-start .args .i) (before free-start .allocs) (heldIn (free-start .args .want)) _ free-is .0
 
 assign-requires : tie.Need-assign-requires
 assign-requires c κs =
-    let a = c .before .before .before .before .before .before .before .before in
-    let k = choose-found (a .args .n) (a .args .i) (allocsIn (a .args .allocs)) (a .args .held) _ (sym (c .before .before .before .choose .ensures) ∙ c .before .choice .given .1) .0 in
-    omega (arith, k, a .pre .0)
-
-enum-known-choice-2 : tie.Need-enum-known-choice-2
-enum-known-choice-2 c = search needs
-
-mul-colours-2 : tie.Need-mul-colours-2
-mul-colours-2 c = search needs
-
-slice-write-colours-2 : tie.Need-slice-write-colours-2
-slice-write-colours-2 c = search needs
+    let x = c .before .before .before in
+    omega (arith, found-below x, found-start x .pre .0 .few)
 
 assign-requires-2 : tie.Need-assign-requires-2
 assign-requires-2 c κs =
-    let a = c .before .before .before .before .before .before .before .before in
-    let k = choose-free (a .args .n) (a .args .i) (allocsIn (a .args .allocs)) (a .args .held) _ (sym (c .before .before .before .choose .ensures) ∙ c .before .choice2 .given .1) .0 in
-    omega (arith, k, a .pre .0)
-
-enum-told : tie.Need-enum-told
-enum-told c = search needs
-
-same-length : tie.Need-same-length
-same-length c = search needs
-
-same-length-2 : tie.Need-same-length-2
-same-length-2 c = search needs
+    let x = c .before .before .before in
+    omega (arith, free-below x, free-start x .pre .0 .few)
 
 returns-2 : tie.Need-returns-2
-unfolding destStep
-returns-2 c = rw (lt-ltb _ _ (c .before .before .before .before .before .before .if1 .left), sym (c .before .before .before .before .choose .ensures) ∙ c .before .before .choice .given .1) (c .assign .ensures, (refl, refl))
-
-same-length-3 : tie.Need-same-length-3
-same-length-3 c = search needs
+returns-2 c =
+    let x = c .before .before .before .before in
+    let s = found-start x in
+    let g = lt-ltb _ _ (chosenAt (x .before .before) .if1 .left) in
+    rw (step-found (s .args .n) (s .args .i) (s .args .next) (s .args .w) (heldIn (s .args .want)) (before s) g (found-is x))
+    (record { allocs = c .assign .ensures (s .args .n) _ (found-below x) (standing s); colours = refl; ends = refl })
 
 returns-3 : tie.Need-returns-3
-unfolding destStep
 returns-3 c =
-    let a = c .before .before .before .before .before .before .before .before .before .args in
-    rw (lt-ltb _ _ (c .before .before .before .before .before .before .if1 .left), sym (c .before .before .before .before .choose .ensures) ∙ c .before .before .choice2 .given .1)
-    (c .assign2 .ensures, (refl, sym (ap (set (a .ends .now) (a .next)) (add-zero (getD (a .ends .now) (a .next) 0)) ∙ set-getD (a .ends .now) (a .next) 0)))
+    let x = c .before .before .before .before in
+    let s = free-start x in
+    let g = lt-ltb _ _ (chosenAt (x .before .before) .if1 .left) in
+    rw (step-free (s .args .n) (s .args .i) (s .args .next) (s .args .w) (heldIn (s .args .want)) (before s) g (free-is x))
+    (record { allocs = c .assign2 .ensures (s .args .n) _ (free-below x) (standing s); colours = refl; ends = refl })
 
 returns-4 : tie.Need-returns-4
-unfolding destStep
 returns-4 c =
-    let a = c .before .before .before .before .before .before .before in
-    absurd (subst Picks (sym (c .before .before .choose .ensures) ∙ c .enum-told .given .1) (a .pre .1 .1 .1 (lt-ltb _ _ (c .before .before .before .before .if1 .left)) .0))
+    let k = c .before .before in
+    let e = chosenAt k in
+    absurd (subst Picks (sym (choice-is k) ∙ c .enum-told .given .1) (start e .pre .1 .1 .1 (lt-ltb _ _ (e .if1 .left)) .0))
 
 pub color-dest-spec : {M : Type 1} → statement M
 color-dest-spec =
     tie.close
     (tie.spec
     returns
-    mul-end
-    slice-read-end
+    (λ c. search needs) (λ c. search needs)
     choose-requires
-    enum-known-choice
-    mul-colours
-    slice-write-colours
+    (λ c. search needs) (λ c. search needs) (λ c. search needs)
     add-ends
-    mul-ends
-    slice-write-ends
+    (λ c. search needs) (λ c. search needs)
     assign-requires
-    enum-known-choice-2
-    mul-colours-2
-    slice-write-colours-2
+    (λ c. search needs) (λ c. search needs) (λ c. search needs)
     assign-requires-2
-    enum-told
-    same-length
-    same-length-2
+    (λ c. search needs) (λ c. search needs) (λ c. search needs)
     returns-2
-    same-length-3
+    (λ c. search needs)
     returns-3
     returns-4)

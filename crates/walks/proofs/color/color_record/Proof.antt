@@ -3,6 +3,8 @@ use Prim.Native.Nat.{ℕ, _<_}
 use mathlib.Core.Bool.{true}
 use mathlib.Core.List.{List}
 use mathlib.Core.Path.{_≡_, refl, sym, ap, _∙_}
+use native.Mathlib.Omega.{arith}
+use borrow.Author.Needs.{needs}
 use denote.Ref.{now}
 use lib.ListN.{getD}
 use Rattle.mir.specs.Inner.{currentsIn}
@@ -11,144 +13,152 @@ use Rattle.mir.specs.declared.shape.Shape.{Shape}
 use Rattle.mir.specs.Shapes.{any, shapeFor, dests}
 use Rattle.mir.proofs.Shapes.{isComplex}
 use Rattle.passes.specs.declared.alloc.Held.{Held}
-use Rattle.passes.specs.Color.{locOf, heldBy, wantX, wantY, wanted, updateAllocs}
-use Rattle.walks.specs.Walks.{Slices, slices, destSteps, sourceWords, wantedBy, recordStep}
-use Rattle.walks.proofs.color.Sources.{partner-below}
-use Rattle.walks.specs.Slots.{allocsIn}
-use borrow.Author.Needs.{needs}
+use Rattle.passes.specs.Color.{locOf, heldBy, wantX, wantY, wanted, updateAllocs, sourceWord}
+use Rattle.colours.specs.Colours.{heldIn, Stands, sourcesUsed}
+use Rattle.colours.proofs.Colours.{stands-as}
+use Rattle.walks.specs.Walks.{Slices, slicesIn, destSteps, sourceWords, wantedBy, recordStep}
+use Rattle.walks.proofs.color.Sources.{partner-below, used-coloured}
 use Rattle.walks.proofs.color.color_record.Statement.{statement}
 use Rattle.walks.proofs.color.color_record.Tie as tie
 
--- the slices before the record
+-- what was lent
 abbrev before : tie.Start → Slices
-before a = slices (allocsIn (a .args .allocs)) (now (a .args .colours)) (now (a .args .ends))
+before s = slicesIn (now (s .args .lives)) (now (s .args .locs)) (now (s .args .colours)) (now (s .args .ends))
 
--- where the first source is known: the call, the record's shape and its location before it
-abbrev start : tie.After-source-at → tie.Start
-start q = q .before .before .before .before .before .before
+-- where the second source is known, what the destinations are wanted with, and the destinations: the places before them
+abbrev start : tie.After-source-at2 → tie.Start
+start q = q .before .before .before .before .before .before .before .before
 
-abbrev source : tie.After-want-y → tie.After-source-at
-source w = w .before .before .before .before .before
+abbrev sources : tie.After-want-y → tie.After-source-at2
+sources w = w .before .before .before
 
-module _ (q : tie.After-source-at) where
+abbrev wants : tie.After-color-dests → tie.After-want-y
+wants d = d .before .before .before .before .before
+
+module _ (q : tie.After-source-at2) where
+  abbrev s : tie.Start
+  s = start q
+
   abbrev rec : List ℕ
-  rec = start q .args .t2
+  rec = s .args .t2
 
-  action-is : q .before .before .before .shape-of .result .action ≡ shapeFor rec .action
-  action-is = ap (λ (s : Shape). s .action) (q .before .before .before .shape-of .ensures)
+  abbrev act : Action
+  act = shapeFor rec .action
 
-  loc-is : q .before .before .loc-of .result ≡ locOf rec
-  loc-is = q .before .before .loc-of .ensures
+  abbrev shaped : tie.After-shape-of
+  shaped = q .before .before .before .before .before
+
+  action-is : shaped .shape-of .result .action ≡ act
+  action-is = ap (λ (x : Shape). x .action) (shaped .shape-of .ensures)
+
+  abbrev located : tie.After-loc-of
+  located = q .before .before .before .before
+
+  loc-is : located .loc-of .result ≡ locOf rec
+  loc-is = located .loc-of .ensures
+
+  -- the sources' colours
+  abbrev colour : ℕ → ℕ
+  colour j = getD (sourceWords (currentsIn (now (s .args .regs))) (now (s .args .colours)) rec) j 0
+
+  x-is : q .before .before .source-at .result ≡ colour 0
+  x-is = q .before .before .source-at .ensures
+
+  y-is : q .source-at2 .result ≡ colour 1
+  y-is = q .source-at2 .ensures
+
+  used : (j : ℕ) → j < sourcesUsed act → colour j < 256 → colour j < s .args .n
+  used j = used-coloured rec (s .good .1 .0 .1 .0 .1) (sourceWord (currentsIn (now (s .args .regs))) (now (s .args .colours))) (s .args .n) j (s .pre .1 .1 .1 .1 .0)
+
+  used-as : (j : ℕ) {w : ℕ} → w ≡ colour j → j < sourcesUsed (shaped .shape-of .result .action) → w < 256 → w < s .args .n
+  used-as j e u l = rw e (used j (rw (← action-is) u) (rw e at l))
 
   -- the partner of a two-part record's location
-  partner : {act : Action} → isComplex act ≡ true → q .before .before .before .shape-of .result .action ≡ act → locOf rec .index < any
-  partner {act} t e = partner-below rec (ap isComplex (sym action-is ∙ e) ∙ t) (start q .pre .1 .0)
+  partner : {k : Action} → isComplex k ≡ true → shaped .shape-of .result .action ≡ k → locOf rec .index < any
+  partner {k} t e = partner-below rec (ap isComplex (sym action-is ∙ e) ∙ t) (s .pre .1 .0)
 
--- what the destinations are wanted with is what the definition says
-wants : (c : tie.After-want-y) →
-    let a = start (source c) in
-    wanted (dests (a .args .t2)) (c .before .want-x .result) (c .want-y .result) ≡ wantedBy (currentsIn (a .args .regs)) (a .args .t2) (before a)
-wants c =
-    let q = source c in
-    let a = start q in
-    let act = shapeFor (rec q) .action in
-    let l = q .before .before .loc-of .result in
-    let h = c .before .before .held-by in
-    let held = h .ensures ∙ ap (heldBy (allocsIn (a .args .allocs))) (q .source-at .ensures) in
-    let x = c .before .want-x .ensures
-    ∙ (ap (λ k. wantX k l (h .result)) (action-is q) ∙ (ap (λ m. wantX act m (h .result)) (loc-is q) ∙ ap (wantX act (locOf (rec q))) held)) in
-    let y = c .want-y .ensures ∙ (ap (λ k. wantY k l) (action-is q) ∙ ap (wantY act) (loc-is q)) in
-    let first = heldBy (allocsIn (a .args .allocs)) (getD (sourceWords (currentsIn (a .args .regs)) (now (a .args .colours)) (rec q)) 0 0) in
-    ap (λ k. wanted (dests (rec q)) k (c .want-y .result)) x ∙ ap (wanted (dests (rec q)) (wantX act (locOf (rec q)) first)) y
-
-array-read-shape-of : tie.Need-array-read-shape-of
-array-read-shape-of c = search needs
-
-shape-of-requires : tie.Need-shape-of-requires
-shape-of-requires c κs = search needs
-
-loc-of-requires : tie.Need-loc-of-requires
-loc-of-requires c κs = search needs
-
-source-at-requires : tie.Need-source-at-requires
-source-at-requires c κs = search needs
-
-source-at-requires-2 : tie.Need-source-at-requires-2
-source-at-requires-2 c κs = search needs
-
-held-by-requires : tie.Need-held-by-requires
-held-by-requires c κs =
-    let q = c .before .before in
-    rw (q .source-at .ensures) (start q .pre .1 .1 .1 .0 0)
+  standing : Stands (s .args .n) (s .args .i) (s .args .masks) (now (s .args .lives)) (now (s .args .locs)) (before s .allocs)
+  standing = record { same = refl; masked = s .pre .1 .1 .1 .1 .1 .0 }
 
 want-x-requires : tie.Need-want-x-requires
-want-x-requires c κs = search needs
+want-x-requires c κs =
+    let q = c .before in
+    let few = start q .pre .1 .1 .1 .1 .1 .0 .few in
+    (rw (loc-is q) (start q .pre .1 .1 .0), λ u l. omega (arith, used-as q 0 (x-is q) u l, few))
 
 want-y-requires : tie.Need-want-y-requires
 want-y-requires c κs =
-    let q = c .before .before .before .before in
-    λ e. rw (loc-is q) (partner q refl e)
+    let q = c .before .before in
+    (rw (loc-is q) (start q .pre .1 .1 .0), λ e. rw (loc-is q) (partner q refl e))
+
+-- what the destinations are wanted with is what the definition says
+wanted-is : (w : tie.After-want-y) →
+    let s = start (sources w) in
+    wanted (dests (s .args .t2)) (heldIn (w .before .want-x .result)) (heldIn (w .want-y .result)) ≡ wantedBy (currentsIn (now (s .args .regs))) (s .args .t2) (before s)
+wanted-is w =
+    let q = sources w in
+    let s = start q in
+    let l = located q .loc-of .result in
+    let held = heldBy (before s .allocs) in
+    let x = w .before .want-x .ensures (s .args .n) (s .args .i) (s .args .masks) (now (s .args .lives)) _ (standing q)
+    ∙ (ap (λ k. wantX k l (held (q .before .before .source-at .result))) (action-is q)
+    ∙ (ap (λ m. wantX (act q) m (held (q .before .before .source-at .result))) (loc-is q) ∙ ap (λ c. wantX (act q) (locOf (rec q)) (held c)) (x-is q))) in
+    let y = w .want-y .ensures ∙ (ap (λ k. wantY k l) (action-is q) ∙ ap (wantY (act q)) (loc-is q)) in
+    ap (λ k. wanted (dests (rec q)) k (heldIn (w .want-y .result))) x ∙ ap (wanted (dests (rec q)) (wantX (act q) (locOf (rec q)) (held (colour q 0)))) y
 
 color-dests-requires : tie.Need-color-dests-requires
 color-dests-requires c κs =
-    let w = c .before .before in
-    let p = start (source w) .pre .1 .1 .1 .1 in
-    (p .0, (p .1 .0, (p .1 .1 .0, rw (wants w) (p .1 .1 .1))))
+    let w = c .before .before .before .before in
+    let p = start (sources w) .pre .1 .1 .1 .1 .1 in
+    (p .0, (p .1 .0, (p .1 .1 .0, rw (wanted-is w) (p .1 .1 .1))))
 
 update-allocs-requires : tie.Need-update-allocs-requires
 update-allocs-requires c κs =
-    let w = c .before .before .before .before .before .before .before in
-    let q = source w in
-    let below = start q .pre .1 .1 .1 .0 in (
-      rw (q .source-at .ensures) (below 0),
-      (rw (w .before .before .before .source-at2 .ensures) (below 1), λ e. rw (loc-is q) (partner q refl e)),
+    let q = sources (wants (c .before .before .before .before .before .before)) in
+    let p = start q .pre in (
+      p .1 .1 .1 .1 .1 .0 .few,
+      (
+        rw (loc-is q) (p .1 .1 .0),
+        (
+          λ e. rw (loc-is q) (partner q refl e),
+          (λ u l. used-as q 0 (x-is q) u l, λ u l. used-as q 1 (y-is q) u l),
+        ),
+      ),
     )
-
-same-length : tie.Need-same-length
-same-length c = search needs
-
-same-length-2 : tie.Need-same-length-2
-same-length-2 c = search needs
 
 returns : tie.Need-returns
 unfolding recordStep
 returns c =
-    let w = c .before .before .before .before .before .before .before .before in
-    let q = source w in
-    let a = start q in
-    let d = c .before .before .before .before .before .color-dests in
-    let steps : List (ℕ × Held) → Slices = λ ds. destSteps (a .args .n) (a .args .i) (a .args .next) ds (before a) in
-    let x = q .source-at .result in
-    let y = w .before .before .before .source-at2 .result in
-    let l = q .before .before .loc-of .result in
-    let act = shapeFor (rec q) .action in
-    let src : ℕ → ℕ = λ k. getD (sourceWords (currentsIn (a .args .regs)) (now (a .args .colours)) (rec q)) k 0 in (
-      c .update-allocs .ensures
-          ∙ (ap (λ k. updateAllocs k l x y (allocsIn (d .result))) (action-is q)
-          ∙ (ap (λ m. updateAllocs act m x y (allocsIn (d .result))) (loc-is q)
-          ∙ (ap (λ k. updateAllocs act (locOf (rec q)) k y (allocsIn (d .result))) (q .source-at .ensures)
-          ∙ (ap (λ k. updateAllocs act (locOf (rec q)) (src 0) k (allocsIn (d .result))) (w .before .before .before .source-at2 .ensures)
-          ∙ ap (updateAllocs act (locOf (rec q)) (src 0) (src 1)) (d .ensures .0 ∙ ap (λ ds. steps ds .allocs) (wants w)))))),
-      (
-        d .ensures .1 .0 ∙ ap (λ ds. steps ds .colours) (wants w),
-        d .ensures .1 .1 ∙ ap (λ ds. steps ds .ends) (wants w),
-      ),
-    )
+    let d = c .before .before .before .before .before .before .before in
+    let w = wants d in
+    let q = sources w in
+    let s = start q in
+    let e = d .color-dests .ensures in
+    let steps : List (ℕ × Held) → Slices = λ ds. destSteps (s .args .n) (s .args .i) (s .args .next) ds (before s) in
+    let given = steps (wanted (dests (rec q)) (heldIn (w .before .want-x .result)) (heldIn (w .want-y .result))) .allocs in
+    let x = q .before .before .source-at .result in
+    let y = q .source-at2 .result in
+    let l = located q .loc-of .result in
+    record {
+      allocs =
+          stands-as (c .update-allocs .ensures (s .args .i) _ (e .allocs))
+          (ap (λ k. updateAllocs k l x y given) (action-is q)
+          ∙ (ap (λ m. updateAllocs (act q) m x y given) (loc-is q)
+          ∙ (ap (λ k. updateAllocs (act q) (locOf (rec q)) k y given) (x-is q)
+          ∙ (ap (λ k. updateAllocs (act q) (locOf (rec q)) (colour q 0) k given) (y-is q)
+          ∙ ap (λ ds. updateAllocs (act q) (locOf (rec q)) (colour q 0) (colour q 1) (steps ds .allocs)) (wanted-is w)))));
+      colours = e .colours ∙ ap (λ ds. steps ds .colours) (wanted-is w);
+      ends = e .ends ∙ ap (λ ds. steps ds .ends) (wanted-is w);
+    }
 
 pub color-record-spec : {M : Type 1} → statement M
 color-record-spec =
     tie.close
     (tie.spec
-    array-read-shape-of
-    shape-of-requires
-    loc-of-requires
-    source-at-requires
-    source-at-requires-2
-    held-by-requires
+    (λ c. search needs) (λ c κs. search needs) (λ c κs. search needs) (λ c κs. search needs) (λ c κs. search needs)
     want-x-requires
     want-y-requires
     color-dests-requires
     update-allocs-requires
-    same-length
-    same-length-2
+    (λ c. search needs) (λ c. search needs)
     returns)

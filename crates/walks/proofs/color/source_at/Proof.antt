@@ -20,12 +20,21 @@ use Rattle.walks.proofs.color.source_at.Tie as tie
 len : (a : tie.Start) → length (a .args .t2) ≡ 8
 len a = a .good .1 .0 .1 .0 .1
 
+-- once the source is there: the call, and the record's shape
+abbrev start : tie.After-struct-known2 → tie.Start
+start c = c .before .before .before .before .before
+
+abbrev shape : tie.After-struct-known2 → Shape
+shape c = c .before .before .before .shape-of .result
+
+is-shape : (c : tie.After-struct-known2) → shape c ≡ shapeFor (start c .args .t2)
+is-shape c = c .before .before .before .shape-of .ensures
+
 -- the source's place is within the record
-within : (c : tie.After-struct-known2) → c .before .before .before .shape-of .result .regs + c .before .before .before .shape-of .result .dsts + c .before .before .before .before .before .args .j < 8
+within : (c : tie.After-struct-known2) → shape c .regs + shape c .dsts + start c .args .j < 8
 within c =
-    let a = c .before .before .before .before .before in
-    let k : a .args .j < c .before .before .before .shape-of .result .srcs = c .before .if1 .left in
-    let r : c .before .before .before .shape-of .result .regs + (c .before .before .before .shape-of .result .dsts + c .before .before .before .shape-of .result .srcs) ≤ 8 = rw (c .before .before .before .shape-of .ensures) (regs-in-record (getD (a .args .t2) 0 0)) in
+    let k : start c .args .j < shape c .srcs = c .before .if1 .left in
+    let r : shape c .regs + (shape c .dsts + shape c .srcs) ≤ 8 = rw (is-shape c) (regs-in-record (getD (start c .args .t2) 0 0)) in
     omega (arith, k, r)
 
 array-read-shape-of : tie.Need-array-read-shape-of
@@ -38,7 +47,7 @@ returns : tie.Need-returns
 returns c =
     let a = c .before .before .before .before in
     let k : shapeFor (a .args .t2) .srcs ≤ a .args .j = rw (c .before .before .shape-of .ensures) at (c .if1 .taken) in
-    sym (source-none (a .args .t2) (len a) (sourceWord (currentsIn (a .args .regs)) (now (a .args .colours))) (a .args .j) k)
+    sym (source-none (a .args .t2) (len a) (sourceWord (currentsIn (now (a .args .regs))) (now (a .args .colours))) (a .args .j) k)
 
 add-p : tie.Need-add-p
 add-p c = omega (arith, within c)
@@ -55,16 +64,19 @@ array-read-deallocate c = omega (arith, within c)
 deallocate-requires : tie.Need-deallocate-requires
 unfolding sources
 deallocate-requires c κs =
-    let a = c .before .before .before .before .before in
-    rw (c .before .before .before .shape-of .ensures) (
-      fits-at (a .args .t2) (shapeFor (a .args .t2) .regs + shapeFor (a .args .t2) .dsts) (shapeFor (a .args .t2) .srcs) (omega (arith, len a, regs-in-record (getD (a .args .t2) 0 0))) (a .args .j) (rw (c .before .before .before .shape-of .ensures) at (c .before .if1 .left)) maxRegs (gens-fit-both maxRegs (a .args .t2) (a .pre .0) .1),
+    let a = start c in
+    let rec = a .args .t2 in
+    let room : shapeFor rec .regs + shapeFor rec .dsts + shapeFor rec .srcs ≤ length rec = omega (arith, len a, regs-in-record (getD rec 0 0)) in
+    let there : a .args .j < shapeFor rec .srcs = rw (is-shape c) at (c .before .if1 .left) in
+    rw (is-shape c) (
+      fits-at rec (shapeFor rec .regs + shapeFor rec .dsts) (shapeFor rec .srcs) room (a .args .j) there maxRegs (gens-fit-both maxRegs rec (a .pre .0) .1),
       a .pre .1,
     )
 
 returns-2 : tie.Need-returns-2
 returns-2 c =
     let a = c .before .before .before .before .before .before in
-    let f = sourceWord (currentsIn (a .args .regs)) (now (a .args .colours)) in
+    let f = sourceWord (currentsIn (now (a .args .regs))) (now (a .args .colours)) in
     c .deallocate .ensures
     ∙ (ap (λ (s : Shape). f (wordAt (a .args .t2) (s .regs + s .dsts + a .args .j))) (c .before .before .before .before .shape-of .ensures)
     ∙ sym (source-word (a .args .t2) (len a) f (a .args .j) (rw (c .before .before .before .before .shape-of .ensures) at (c .before .before .if1 .left))))

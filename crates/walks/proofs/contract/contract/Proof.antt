@@ -5,7 +5,6 @@ use mathlib.Core.List.{List}
 use mathlib.Core.Path.{_≡_}
 use native.Mathlib.Omega.{arith}
 use lib.ListN.{length}
-use Rattle.mir.specs.Inner.{currentsIn}
 use Rattle.mir.proofs.Renaming.{gens-two}
 use Rattle.mir.specs.Records.{fixedMark}
 use Rattle.mir.specs.declared.config.Settings.{Settings}
@@ -19,7 +18,7 @@ use Rattle.walks.proofs.contract.contract.Tie as tie
 abbrev Inv-loop : tie.InvT-loop
 Inv-loop list colours ends₀ locs members out₀ seen count fixed regs₀ statics₀ tally₀ i₀ ends out regs statics tally i =
     (i ≤ count)
-    × (Walked list i (currentsIn regs) statics
+    × (Walked list i regs statics
     × ((s : Settings) (table : List ℕ) → fixed ≡ fixedMark s → Colored s list table colours ends₀ locs members → Contracting s list table ends₀ out₀ i ends out tally))
 
 abbrev μ-loop : tie.MeasureT-loop
@@ -70,7 +69,7 @@ abbrev turn : tie.After-record-at Inv-loop μ-loop → tie.At-loop Inv-loop μ-l
 turn r = r .before .before
 
 abbrev recordOf : tie.After-contract-record Inv-loop μ-loop → tie.After-record-at Inv-loop μ-loop
-recordOf k = k .before .before .before
+recordOf k = k .before .before .before .before
 
 -- what the loop keeps, of the walk's own settings and table
 abbrev kept : (l : tie.At-loop Inv-loop μ-loop) →
@@ -104,12 +103,12 @@ cast-first r = omega (arith, statics-few r, words-few r)
 
 contract-record-requires : tie.Need-contract-record-requires Inv-loop μ-loop
 contract-record-requires c κs =
-    let r = c .before .before in
+    let r = c .before .before .before in
     (a r .pre .0, contract-asks (own (a r)) (kept (turn r)) (in-list r) (turn r .loop .inv .1 .0) (r .record-at .ensures))
 
 rename-requires : tie.Need-rename-requires Inv-loop μ-loop
 rename-requires c κs =
-    let r = recordOf (c .before .before .before .before) in
+    let r = recordOf (c .before .before .before .before .before) in
     (gens-fit (list r) (listed (a r)) (i r) (in-list r) (r .record-at .ensures), omega (arith, statics-few r, words-few r))
 
 count-statics-requires : tie.Need-count-statics-requires Inv-loop μ-loop
@@ -117,12 +116,12 @@ count-statics-requires c κs = search needs
 
 add-statics : tie.Need-add-statics Inv-loop μ-loop
 add-statics c =
-    let r = recordOf (c .before .before .before .before .before .before) in
+    let r = recordOf (c .before .before .before .before .before .before .before) in
     rw (c .count-statics .ensures) (omega (arith, statics-few r, words-few r, gens-two (r .record-at .result)))
 
 add-i : tie.Need-add-i Inv-loop μ-loop
 add-i c =
-    let r = recordOf (c .before .before .before .before .before .before) in
+    let r = recordOf (c .before .before .before .before .before .before .before) in
     omega (arith, in-list r, words-few r)
 
 loop-less : tie.Need-loop-less Inv-loop μ-loop
@@ -130,7 +129,7 @@ loop-less c = search needs
 
 loop-again : tie.Need-loop-again Inv-loop μ-loop
 loop-again c =
-    let k = c .before .before .before .before .before .before in
+    let k = c .before .before .before .before .before .before .before in
     let r = recordOf k in
     let inv = turn r .loop .inv in
     let e = r .record-at .ensures in

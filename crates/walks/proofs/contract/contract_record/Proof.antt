@@ -35,7 +35,7 @@ outcome-of-requires : tie.Need-outcome-of-requires
 outcome-of-requires c κs =
     let a = start c in
     let p = a .pre .1 .1 in
-    let e = written-partner (currentsIn (a .args .regs)) (a .args .next) (a .args .colours .now) (a .args .rec) (a .good .0 .1 .0 .1) (p .0) in
+    let e = written-partner (currentsIn (a .args .regs .now)) (a .args .next) (a .args .colours .now) (a .args .rec) (a .good .0 .1 .0 .1) (p .0) in
     (a .pre .0, (rw (c .rewrite .ensures) e, p .1 .1 .1 .1 .0))
 
 cast-keep : tie.Need-cast-keep
@@ -61,7 +61,7 @@ abbrev membersIn : tie.Start → List Loc
 membersIn a = pairsFrom (a .args .locs .now) 0 (a .args .members)
 
 abbrev outcome : tie.Start → Outcome
-outcome a = outcomeIn (a .args .fixed) (membersIn a) (currentsIn (a .args .regs)) (a .args .next) (a .args .colours .now) (a .args .ends .now) (a .args .rec)
+outcome a = outcomeIn (a .args .fixed) (membersIn a) (currentsIn (a .args .regs .now)) (a .args .next) (a .args .colours .now) (a .args .ends .now) (a .args .rec)
 
 outcome-is : (o : tie.After-outcome-of) → o .outcome-of .result ≡ outcome (start (o .before))
 outcome-is o =

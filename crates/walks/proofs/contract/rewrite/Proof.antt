@@ -42,7 +42,7 @@ returns c =
     let a = c .before .before .before .before .before in
     let len : length (a .args .t1) ≡ 8 = a .good .0 .1 .0 .1 in
     c .rewrite-words .ensures
-    ∙ sources-written (a .args .t1) len (a .args .next) (a .args .colours .now) (c .before .before .before .shape-of .result) (c .before .before .before .shape-of .ensures) (c .before .rewrite-dests .result) (c .before .rewrite-dests .ensures) (currentsIn (a .args .regs))
+    ∙ sources-written (a .args .t1) len (a .args .next) (a .args .colours .now) (c .before .before .before .shape-of .result) (c .before .before .before .shape-of .ensures) (c .before .rewrite-dests .result) (c .before .rewrite-dests .ensures) (currentsIn (a .args .regs .now))
 
 pub rewrite-spec : {M : Type 1} → statement M
 rewrite-spec =

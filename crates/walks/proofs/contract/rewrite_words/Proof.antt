@@ -63,7 +63,7 @@ loop-again c =
     let a = c .before .before .before .before in
     let len : length (a .args .t1) ≡ 8 = a .good .0 .1 .0 .1 in (
       search needs,
-      rw (c .deallocate .ensures, b .loop .inv .1) (changed-next (sourceWord (currentsIn (a .args .regs)) (a .args .colours .now)) (a .args .t1) (a .args .from) (a .args .count) (omega arith) (b .loop .j) (c .before .loop-test .taken)),
+      rw (c .deallocate .ensures, b .loop .inv .1) (changed-next (sourceWord (currentsIn (a .args .regs .now)) (a .args .colours .now)) (a .args .t1) (a .args .from) (a .args .count) (omega arith) (b .loop .j) (c .before .loop-test .taken)),
     )
 
 returns : tie.Need-returns Inv-loop μ-loop

@@ -39,7 +39,7 @@ unfolding sources
 returns c =
     let a = c .before .before .before .before .before .before .before .args in
     c .before .before .consume-words .ensures
-    ∙ ap (λ (s : Shape). consumed (currentsIn (a .regs)) (a .i) (take (s .srcs) (drop (s .regs + s .dsts) (a .t2))) (now (a .ends))) (c .before .before .before .before .before .shape-of .ensures)
+    ∙ ap (λ (s : Shape). consumed (currentsIn (now (a .regs))) (a .i) (take (s .srcs) (drop (s .regs + s .dsts) (a .t2))) (now (a .ends))) (c .before .before .before .before .before .shape-of .ensures)
 
 pub consume-sources-spec : {M : Type 1} → statement M
 consume-sources-spec =

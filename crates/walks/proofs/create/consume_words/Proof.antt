@@ -3,6 +3,7 @@
 use Prim.Native.Nat.{_+_, _-_, _≤_}
 use mathlib.Core.Path.{_≡_, refl, sym, ap, _∙_}
 use native.Mathlib.Omega.{arith}
+use denote.Ref.{now}
 use lib.ListN.{length, getD, take, drop}
 use Rattle.mir.specs.Inner.{currentsIn}
 use Rattle.passes.specs.Create.{consume, consumed}
@@ -39,7 +40,10 @@ consume-requires c κs =
     let a = b .before .before in
     let len : length (a .args .t2) ≡ 8 = a .good .1 .0 .1 .0 .1 in (
       fits-at (a .args .t2) (a .args .from) (a .args .count) (omega arith) (b .loop .j) (c .before .loop-test .taken) maxRegs (a .pre .1 .0),
-      λ r t e. rw (b .loop .inv .1, consumed-length (currentsIn (a .args .regs)) (a .args .i) (take (b .loop .j) (drop (a .args .from) (a .args .t2))) (a .args .ends .now)) (a .pre .1 .1 r t e),
+      record {
+        size = a .pre .1 .1 .size;
+        known = λ r t e. rw (b .loop .inv .1, consumed-length (currentsIn (now (a .args .regs))) (a .args .i) (take (b .loop .j) (drop (a .args .from) (a .args .t2))) (a .args .ends .now)) (a .pre .1 .1 .known r t e);
+      },
     )
 
 add-j : tie.Need-add-j Inv-loop μ-loop
@@ -56,9 +60,9 @@ loop-again c =
     let w = getD (a .args .t2) (a .args .from + b .loop .j) 0 in (
       search needs,
       c .before .before .consume .ensures
-          ∙ (ap (consume (currentsIn (a .args .regs)) (a .args .i) w) (b .loop .inv .1)
-          ∙ (sym (consumed-next (currentsIn (a .args .regs)) (a .args .i) (take (b .loop .j) (drop (a .args .from) (a .args .t2))) w (a .args .ends .now))
-          ∙ ap (λ ws. consumed (currentsIn (a .args .regs)) (a .args .i) ws (a .args .ends .now))
+          ∙ (ap (consume (currentsIn (now (a .args .regs))) (a .args .i) w) (b .loop .inv .1)
+          ∙ (sym (consumed-next (currentsIn (now (a .args .regs))) (a .args .i) (take (b .loop .j) (drop (a .args .from) (a .args .t2))) w (a .args .ends .now))
+          ∙ ap (λ ws. consumed (currentsIn (now (a .args .regs))) (a .args .i) ws (a .args .ends .now))
           (sym (window-next (a .args .t2) (a .args .from) (a .args .count) (omega arith) (b .loop .j) (c .before .before .before .before .loop-test .taken))))),
     )
 
@@ -66,7 +70,7 @@ same-length : tie.Need-same-length Inv-loop μ-loop
 same-length c =
     let b = c .before in
     let a = b .before .before in
-    ap length (b .loop .inv .1) ∙ consumed-length (currentsIn (a .args .regs)) (a .args .i) (take (b .loop .j) (drop (a .args .from) (a .args .t2))) (a .args .ends .now)
+    ap length (b .loop .inv .1) ∙ consumed-length (currentsIn (now (a .args .regs))) (a .args .i) (take (b .loop .j) (drop (a .args .from) (a .args .t2))) (a .args .ends .now)
 
 returns : tie.Need-returns Inv-loop μ-loop
 returns c =

@@ -6,6 +6,7 @@ use mathlib.Core.Path.{_≡_, refl, ap, _∙_}
 use native.Mathlib.Omega.{arith}
 use lib.ListN.{length}
 use Rattle.mir.specs.Inner.{currentsIn}
+use Rattle.mir.specs.Records.{recordAt}
 use Rattle.mir.specs.Shapes.{dests, sources}
 use Rattle.mir.proofs.Renaming.{gens-two, statics-two}
 use Rattle.passes.specs.Create.{consumed, endsTo, endsOf}
@@ -20,7 +21,7 @@ use Rattle.walks.proofs.create.create.Statement.{statement}
 use Rattle.walks.proofs.create.create.Tie as tie
 
 abbrev Inv-loop : tie.InvT-loop
-Inv-loop list ends₀ n regs₀ statics₀ i₀ ends regs statics i = (i ≤ n) × Walked list i (currentsIn regs) statics × (ends ≡ over (endsTo list i) ends₀)
+Inv-loop list ends₀ n regs₀ statics₀ i₀ ends regs statics i = (i ≤ n) × Walked list i regs statics × (ends ≡ over (endsTo list i) ends₀)
 
 abbrev μ-loop : tie.MeasureT-loop
 μ-loop list ends₀ n regs₀ statics₀ i₀ ends regs statics i = n - i
@@ -53,7 +54,7 @@ abbrev consuming : tie.After-create-statics Inv-loop μ-loop → tie.After-consu
 consuming k = k .before .before .before .before
 
 abbrev recordOf : tie.After-consume-sources Inv-loop μ-loop → tie.After-record-at Inv-loop μ-loop
-recordOf k = k .before .before
+recordOf k = k .before .before .before
 
 module _ (r : tie.After-record-at Inv-loop μ-loop) where
   abbrev a : tie.Start Inv-loop μ-loop
@@ -75,11 +76,11 @@ module _ (r : tie.After-record-at Inv-loop μ-loop) where
   statics-few = few-statics list (a .pre .0) i in-list (turn r .loop .inv .1)
 
 cast-consume-sources : tie.Need-cast-consume-sources Inv-loop μ-loop
-cast-consume-sources r = omega (arith, in-list r, words-few r)
+cast-consume-sources c = omega (arith, in-list (c .before), words-few (c .before))
 
 consume-sources-requires : tie.Need-consume-sources-requires Inv-loop μ-loop
 consume-sources-requires c κs =
-    let r = c .before in
+    let r = c .before .before in
     let inv = turn r .loop .inv in (
       gens-fit (list r) (a r .pre .0) (i r) (in-list r) (r .record-at .ensures),
       walked-known (inv .1) (omega (arith, statics-few r, a r .pre .1, same (turn r) (inv .0))),
@@ -87,12 +88,12 @@ consume-sources-requires c κs =
 
 cast-create-statics : tie.Need-cast-create-statics Inv-loop μ-loop
 cast-create-statics c =
-    let r = c .before .before .before .before in
+    let r = recordOf (c .before .before) in
     omega (arith, in-list r, words-few r)
 
 cast-create-statics-2 : tie.Need-cast-create-statics-2 Inv-loop μ-loop
 cast-create-statics-2 c =
-    let r = c .before .before .before .before in
+    let r = recordOf (c .before .before) in
     omega (arith, statics-few r, words-few r)
 
 create-statics-requires : tie.Need-create-statics-requires Inv-loop μ-loop
@@ -103,7 +104,7 @@ create-statics-requires c κs =
 
 rename-requires : tie.Need-rename-requires Inv-loop μ-loop
 rename-requires c κs =
-    let r = recordOf (consuming (c .before .before)) in
+    let r = recordOf (consuming (c .before .before .before)) in
     (gens-fit (list r) (a r .pre .0) (i r) (in-list r) (r .record-at .ensures), omega (arith, statics-few r, words-few r))
 
 count-statics-requires : tie.Need-count-statics-requires Inv-loop μ-loop
@@ -111,7 +112,7 @@ count-statics-requires c κs = search needs
 
 add-statics : tie.Need-add-statics Inv-loop μ-loop
 add-statics c =
-    let r = recordOf (consuming (c .before .before .before .before)) in
+    let r = recordOf (consuming (c .before .before .before .before .before)) in
     rw (c .count-statics .ensures) (omega (arith, statics-few r, words-few r, gens-two (r .record-at .result)))
 
 add-i : tie.Need-add-i Inv-loop μ-loop
@@ -120,11 +121,16 @@ add-i c = search needs
 loop-less : tie.Need-loop-less Inv-loop μ-loop
 loop-less c = search needs
 
+-- the ends after the record's sources and destinations
+ends-turn : {list : List ℕ} {i : ℕ} {regs rec : List ℕ} {statics : ℕ} → rec ≡ recordAt list i → Walked list i regs statics → (held : List ℕ) → statics + 2 ≤ length held
+    → created (dests rec) statics i (consumed (currentsIn regs) i (sources rec) (over (endsTo list i) held)) ≡ over (endsTo list (i + 1)) held
+ends-turn {list} {i} e w held h = rw (e, w .regs-are, w .statics-are) (ends-next list i held (omega (arith, w .statics-are)))
+
 loop-again : tie.Need-loop-again Inv-loop μ-loop
 loop-again c =
-    let m = c .before .before .before .before in
-    let k = m .before .before .before .before in
-    let r = k .before .before in
+    let m = c .before .before .before .before .before in
+    let k = consuming m in
+    let r = recordOf k in
     let l = r .before .before in
     let b = l .before .before .before in
     let w = l .loop .inv .1 in
@@ -135,7 +141,7 @@ loop-again c =
       walked-next (r .record-at .result) w e (c .before .rename .ensures) (c .count-statics .ensures),
       m .create-statics .ensures
           ∙ (ap (created (dests (r .record-at .result)) (l .loop .statics) (l .loop .i)) read
-          ∙ rw (e, w .regs-are, w .statics-are) (ends-next (b .args .list .now) (l .loop .i) (b .args .ends .now) (omega (arith, few, b .pre .1, w .statics-are)))),
+          ∙ ends-turn e w (b .args .ends .now) (omega (arith, few, b .pre .1))),
     )
 
 -- ---- after the last turn

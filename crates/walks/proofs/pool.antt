@@ -1,2 +1,0 @@
--- The choices, src/pool.rt.
-pub mod Search
