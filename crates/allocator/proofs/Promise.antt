@@ -27,7 +27,7 @@ use Rattle.walks.specs.declared.Counts.{Counts}
 use Rattle.walks.specs.Lent.{Lent}
 use Rattle.allocator.specs.Optimize.{Optimized, roomFor, roomIn, verdictOf, report, recordsIn, left}
 use Rattle.walks.specs.Walks.{Roomy, Reduces}
-use Rattle.walks.proofs.Over.{over-take}
+use Rattle.mir.proofs.Over.{over-take}
 
 module _ (s : Settings) (list table : List ℕ) where
   pub reduced-words : length (reduced s list table) ≡ countOf Kept s list table * 8

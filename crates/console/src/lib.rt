@@ -1,9 +1,9 @@
 // Standard input and output of the programs: words that are read, and what reducing a file gives, as text.
 use allocator::Answer;
+use file::layout::word_at;
+use file::reduce::reduce_file;
 use libc::STDIN_FILENO;
 use libc::STDOUT_FILENO;
-use rudzaviks::file::word_at;
-use rudzaviks::reduce::reduce_file;
 use walks::Counts;
 ghost use Prim.Native.Nat.{_*_, _+_, _≤_};
 ghost use lib.ListN.{length};

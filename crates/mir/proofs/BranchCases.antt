@@ -1,5 +1,6 @@
 -- Questions 15 and 16 of document 02's request 10, `branch-cases`: which reads are refused past a BranchIf and which are not, every
--- source of every kind; which branches have a Label; and which question comes first.
+-- source of every kind; which branches have a Label; which question comes first;
+-- and which of several Labels with a number is the last.
 -- By computation.
 use Prim.Native.Nat.{ℕ}
 use mathlib.Core.Bool.{true}
@@ -8,8 +9,8 @@ use mathlib.Core.Path.{_≡_, refl}
 use lib.ListN.{getD, set}
 use Rattle.mir.specs.declared.questions.Verdict.{Verdict}
 use Rattle.mir.specs.declared.questions.Verdict.the-variants.{Passed, Refused}
-use Rattle.mir.specs.Branches.{isLabel, isBranch, labelOf, pastTo}
-use Rattle.mir.specs.Folds.{allBelow, anyBelow, all, firstRefusal}
+use Rattle.mir.specs.Branches.{isLabel, labelAt, isBranch, labelOf, pastTo}
+use Rattle.mir.specs.Folds.{allBelow, anyBelow, all, firstRefusal, lastBelow}
 use Rattle.mir.specs.Questions.{refusal, refusalBeside, sizesRefusal, recordRefusal, shapeRefusal, branchRefusal, recordNo, shapeNo, fewRegisters, fewArgs, wellSized}
 use Rattle.mir.specs.Questions.{knownKind, fieldsFit, wordsFit, pairsFit, gensFit, partnerFits, sourcesNamed, sourcesSince}
 use Rattle.mir.specs.Records.{recordAt}
@@ -130,13 +131,15 @@ pub record ToLabels : Type 0 where
   -- once every record has passed: a later record's no comes before it
   pub five-later : of (branch 7 ∷ unknown ∷ []) ≡ Refused 5 1
   pub fifteen-later : of (branch 7 ∷ const 0 ∷ branchIf ret 8 ∷ save 0 ∷ []) ≡ Refused 15 3
+  -- the last of two Labels, which the survey and a run go by
+  pub last-of-two : lastBelow (labelAt (flat (label 7 ∷ branch 7 ∷ label 7 ∷ label 8 ∷ [])) 7) 4 ≡ 2 ∷ []
   -- the survey asks neither
   pub not-beside : refusalBeside true 5 (flat (const 0 ∷ branchIf ret 7 ∷ save 0 ∷ [])) [] ≡ Passed
 
 pub branch-cases : EachSource × PastBranch × ToLabels
 unfolding of past asked refusal refusalBeside sizesRefusal recordRefusal shapeRefusal branchRefusal recordNo shapeNo fewRegisters fewArgs
     wellSized knownKind fieldsFit wordsFit pairsFit gensFit partnerFits sourcesNamed sourcesSince isLabel isBranch labelOf pastTo
-    allBelow anyBelow all firstRefusal recordAt gens produced renamed staticsTo regsTo shapeOf dests sources registers
+    allBelow anyBelow all firstRefusal lastBelow recordAt gens produced renamed staticsTo regsTo shapeOf dests sources registers
 branch-cases = (
   record {
     uni = refl;
@@ -186,6 +189,7 @@ branch-cases = (
     another-kind = refl;
     five-later = refl;
     fifteen-later = refl;
+    last-of-two = refl;
     not-beside = refl;
   },
 )

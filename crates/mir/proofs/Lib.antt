@@ -5,9 +5,9 @@ pub mod Currents
 pub mod Folds
 pub mod Limits
 pub mod Masks
-pub mod Pair
+pub mod Over
 pub mod Passing
 pub mod Records
 pub mod Renaming
 pub mod Shapes
-pub mod Surveys
+pub mod Words

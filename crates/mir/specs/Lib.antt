@@ -7,5 +7,4 @@ pub mod Folds
 pub mod Branches
 pub mod Questions
 pub mod Answers
-pub mod Beside
 pub mod Inner

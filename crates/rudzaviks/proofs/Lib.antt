@@ -1,9 +1,6 @@
--- The laws that the functions' proofs cite. Those that serve one file of src/ stand in the folder of its name.
+-- The laws that the functions' proofs cite.
 pub mod Cases
-pub mod FileVerdict
 pub mod Optimize
 pub mod ReduceBytes
-pub mod Sections
 pub mod Survey
-pub mod WordBounds
 pub mod Written

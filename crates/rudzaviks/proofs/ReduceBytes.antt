@@ -12,18 +12,18 @@ use Rattle.walks.specs.declared.Counts.{Counts}
 use Rattle.passes.specs.Contract.{countsOf}
 use Rattle.allocator.specs.Optimize.{left}
 use Rattle.walks.specs.Lent.{valuesIn}
-use Rattle.walks.proofs.Over.{over-take}
+use Rattle.mir.proofs.Over.{over-take}
 use Rattle.mir.specs.declared.questions.Verdict.{Verdict}
 use Rattle.mir.specs.declared.questions.Verdict.the-variants.{Passed, Refused}
 use Rattle.mir.specs.Answers.{over, answered, refused, unless}
 use Rattle.mir.proofs.Clash.{clash}
-use Rattle.rudzaviks.specs.declared.file.Layout.the-variants.{Bad}
-use Rattle.rudzaviks.specs.Exports.{refusalWord, reportWord, recordsWord}
-use Rattle.rudzaviks.specs.File.{RudzaviksReduce, bytesOf, recordCount, layoutOf, fileVerdict, fileCounts, fileReduced, fileWords, bytesVerdict}
-use Rattle.rudzaviks.proofs.file.Bytes.{words-back}
-use Rattle.rudzaviks.proofs.FileVerdict.{bad-verdict, accepted, kept, kept-size, kept-few, answered-passed, accepted-preserved}
-use Rattle.rudzaviks.proofs.Sections.{Sections}
-use Rattle.rudzaviks.proofs.WordBounds.{reduced-small}
+use Rattle.file.specs.declared.layout.Layout.the-variants.{Bad}
+use Rattle.rudzaviks.specs.Exports.{RudzaviksReduce, refusalWord, reportWord, recordsWord, fileWords, bytesVerdict}
+use Rattle.file.specs.File.{bytesOf, recordCount, layoutOf, fileVerdict, fileCounts, fileReduced}
+use Rattle.file.proofs.layout.Bytes.{words-back}
+use Rattle.file.proofs.FileVerdict.{bad-verdict, accepted, kept, kept-size, kept-few, answered-passed, accepted-preserved}
+use Rattle.file.proofs.Sections.{Sections}
+use Rattle.file.proofs.WordBounds.{reduced-small}
 
 bytes-promise : {file held now : List ℕ} {given : ℕ} → given ≡ reportWord recordsWord (unless (bytesVerdict file held) (fileCounts file))
     → now ≡ left (bytesVerdict file held) (bytesOf (fileWords file)) held → RudzaviksReduce file held now given

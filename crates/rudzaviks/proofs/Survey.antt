@@ -6,11 +6,11 @@ use mathlib.Core.List.{List, []}
 use mathlib.Core.Path.{_≡_, sym, ap, _∙_}
 use lib.ListN.{length}
 use borrow.Author.Tests.{le-leb, lt-leb}
-use Rattle.mir.specs.declared.Surveyed.{Surveyed}
+use Rattle.survey.specs.declared.Surveyed.{Surveyed}
 use Rattle.mir.specs.declared.questions.Verdict.{Verdict}
 use Rattle.mir.specs.declared.questions.Verdict.the-variants.{Passed, Refused}
 use Rattle.mir.specs.Answers.{unless}
-use Rattle.mir.specs.Beside.{parts, surveyOf, surveyReport}
+use Rattle.survey.specs.Beside.{parts, surveyOf, surveyReport}
 use Rattle.mir.specs.Questions.{sizesRefusal, refusalBeside}
 use Rattle.mir.proofs.Clash.{clash}
 use Rattle.mir.proofs.Passing.{sizes-pass}

@@ -1,10 +1,10 @@
 -- Public: the answers of the exported functions, each as one 64-bit word. Bits 32 to 55 hold the number of the question that
 -- refused the list, 0 for none, so a refusal is never taken for an answer; a refusal's index stands in bits 0 to 31.
 use Prim.Native.Nat.{ℕ, _+_, _*_, _/_, _%_, _^_}
-use mathlib.Core.Bool.{Bool, not, _&&_}
+use mathlib.Core.Bool.{Bool, _&&_}
 use mathlib.Core.List.{List, [], _∷_}
 use mathlib.Core.Path.{_≡_}
-use lib.Dec.{eqb, leb}
+use lib.Dec.{leb}
 use lib.ListN.{getD, length, take}
 use Rattle.walks.specs.Lent.{Lent}
 use Rattle.allocator.specs.Optimize.{roomIn, left}
@@ -12,20 +12,13 @@ use Rattle.mir.specs.declared.config.Settings.{Settings}
 use Rattle.mir.specs.declared.questions.Verdict.{Verdict}
 use Rattle.mir.specs.declared.questions.Verdict.the-variants.{Passed}
 use Rattle.mir.specs.Answers.{Report, answered, refused, unless}
-use Rattle.mir.specs.Beside.{parts}
+use Rattle.survey.specs.Beside.{parts}
 use Rattle.mir.specs.Questions.{refusal, refusalBeside}
-use Rattle.passes.specs.Contract.{countsOf, wordsOf, reduced, coloursOf, membersOf}
+use Rattle.passes.specs.declared.alloc.Outcome.the-variants.{Kept}
+use Rattle.passes.specs.Contract.{countsOf, countOf, wordsOf, reduced, coloursOf, membersOf}
 use Rattle.passes.specs.Create.{endsOf}
 use Rattle.passes.specs.Machine.{Preserves}
-
--- a flag is set if its word isn't 0
-abbrev pub flag : ℕ → Bool
-flag w = not (eqb w 0)
-
--- the settings as numbers
-abbrev pub settingsOf : (countRegs args complex arm compress : ℕ) → Settings
-settingsOf countRegs args complex arm compress =
-    record { «count_regs» = countRegs; args = args; complex = flag complex; arm = flag arm; compress = flag compress }
+use Rattle.file.specs.File.{wordsIn, bytesOf, settingsIn, tableIn, recordCount, listIn, fileVerdict, fileCounts, fileReduced}
 
 -- number and index
 abbrev pub refusalWord : ℕ → ℕ → ℕ
@@ -77,3 +70,22 @@ pub record RudzaviksOptimize (s : Settings) (list table : List ℕ) (held : Lent
   pub preserved :
       verdictWith s list table held heldCounts ≡ Passed
       → Preserves s list (take (given * 8) (now .out))
+
+-- ---- rudzaviks_reduce
+
+-- question 4 asks for 4 bytes, and 32 for each record of the file
+abbrev pub bytesVerdict : List ℕ → List ℕ → Verdict
+bytesVerdict file held = fileVerdict (leb (4 + recordCount file * 32) (length held)) file
+
+-- record count and records
+abbrev pub fileWords : List ℕ → List ℕ
+fileWords file = countOf Kept (settingsIn file) (listIn file) (tableIn file) ∷ fileReduced file
+
+-- the promise, with what the lent bytes held and hold
+pub record RudzaviksReduce (file held now : List ℕ) (given : ℕ) : Type 0 where
+  pub word : given ≡ reportWord recordsWord (unless (bytesVerdict file held) (fileCounts file))
+  pub out : now ≡ left (bytesVerdict file held) (bytesOf (fileWords file)) held
+  -- section 5 and request 10 again, over what the bytes hold
+  pub preserved :
+      bytesVerdict file held ≡ Passed
+      → Preserves (settingsIn file) (listIn file) (wordsIn now 1 (given * 8))

@@ -1,3 +1,2 @@
--- Public: what the exported functions answer, in one word, and the file.
+-- Public: what the exported functions answer, in one word.
 pub mod Exports
-pub mod File

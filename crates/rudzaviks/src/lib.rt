@@ -1,30 +1,28 @@
 // The functions exported to C: each takes word slices and numbers, and answers in one 64-bit word.
-pub mod file;
-pub mod reduce;
-
 ghost use Prim.Native.Nat.{_/_, _%_, _^_, _≤_};
 ghost use mathlib.Core.List.{[], _∷_};
 ghost use mathlib.Core.Path.{_≡_};
 ghost use lib.ListN.{length, getD};
 ghost use Rattle.walks.specs.Lent.{lent, valuesIn};
-ghost use Rattle.rudzaviks.specs.Exports.{RudzaviksSurvey, RudzaviksOptimize, flag, settingsOf, refusalWord, reportWord, recordsWord};
-ghost use Rattle.rudzaviks.specs.declared.file.Layout.the-variants as layout;
-ghost use Rattle.rudzaviks.specs.File.{RudzaviksReduce, layoutOf};
+ghost use Rattle.rudzaviks.specs.Exports.{RudzaviksSurvey, RudzaviksOptimize, RudzaviksReduce, refusalWord, reportWord, recordsWord};
+ghost use Rattle.file.specs.declared.layout.Layout.the-variants as layout;
+ghost use Rattle.file.specs.File.{flag, settingsOf, layoutOf};
 ghost use Rattle.mir.specs.Answers.{over, unless};
-ghost use Rattle.mir.specs.Beside.{placeIn};
-use crate::file::Layout;
-use crate::file::layout_of;
-use crate::file::write_words;
-use crate::reduce::reduce_sections;
+ghost use Rattle.survey.specs.Beside.{placeIn};
 use allocator::Answer;
 use allocator::optimize;
-use mir::Place;
-use mir::Surveyed;
+use file::layout::Layout;
+use file::layout::layout_of;
+use file::layout::write_words;
+use file::reduce::reduce_sections;
+use file::settings_of;
 use mir::config::Settings;
 use mir::questions::Verdict;
 use mir::questions::check_sizes;
-use mir::survey;
 use questions::check;
+use survey::Place;
+use survey::Surveyed;
+use survey::survey;
 use walks::Counts;
 
 // A refusal: the question's number above bit 32, the record's index below it.
@@ -32,19 +30,6 @@ fn refusal_word(number: u32, index: u32) -> u64
     ensures { λ r. ⌜ r ≡ refusalWord number index ⌝ }
 {
     (number as u64) * 4_294_967_296 + (index as u64)
-}
-
-// The settings, from numbers; a flag is set if its word isn't 0.
-pub fn settings_of(count_regs: u32, args: u32, complex: u32, arm: u32, compress: u32) -> Settings
-    ensures { λ r. ⌜ r ≡ settingsOf «count_regs» args complex arm compress ⌝ }
-{
-    Settings {
-        count_regs,
-        args,
-        complex: complex != 0,
-        arm: arm != 0,
-        compress: compress != 0,
-    }
 }
 
 // The settings that a survey looks at.

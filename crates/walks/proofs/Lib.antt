@@ -1,5 +1,2 @@
--- The laws that the functions' proofs cite. Those that serve one file of src/ stand in the folder of its name.
-pub mod Over
-pub mod Words
-pub mod Registers
+-- The laws of all walks together; those that serve src/contract.rt stand in the folder of its name.
 pub mod Walks

@@ -18,10 +18,11 @@ use Rattle.passes.proofs.NeverEmpty.{ready-to}
 use Rattle.walks.specs.declared.contract.Tally.{Tally}
 use Rattle.passes.specs.Contract.{coloursOf, membersOf, countsOf, wordsOf}
 use Rattle.mir.specs.Answers.{over}
-use Rattle.walks.specs.Walks.{Colored, Contracted, markedEnds, foundsTo}
-use Rattle.walks.proofs.color.Dests.{marked-length}
-use Rattle.walks.proofs.Over.{over-over}
-use Rattle.walks.proofs.Registers.{passing-list}
+use Rattle.coloring.specs.Coloring.{markedEnds, foundsTo}
+use Rattle.walks.specs.Walks.{Colored, Contracted}
+use Rattle.coloring.proofs.Dests.{marked-length}
+use Rattle.mir.proofs.Over.{over-over}
+use Rattle.lives.proofs.Registers.{passing-list}
 
 -- a slice that was written over starts with the words
 pub starts : (ws old : List ℕ) {new : List ℕ} → new ≡ over ws old → new ≡ over ws new

@@ -6,15 +6,15 @@ ghost use lib.ListN.{length};
 ghost use Rattle.mir.specs.Shapes.{any};
 ghost use Rattle.passes.specs.Machine.{Passing};
 ghost use Rattle.walks.specs.Lent.{lent, valuesIn};
-ghost use Rattle.walks.specs.Walks.{Indexed, Roomy, Reduces};
+ghost use Rattle.sets.specs.Sets.{Indexed};
+ghost use Rattle.walks.specs.Walks.{Roomy, Reduces};
 
-pub mod color;
 pub mod contract;
-pub mod create;
-pub mod locs;
 
-use crate::color::Sizes;
 use crate::contract::Tally;
+use coloring::Sizes;
+use coloring::color;
+use lives::create;
 use mir::config::Settings;
 
 // What the reduced list and the lent slices have, and what was dropped.
@@ -60,8 +60,8 @@ fn walk(
     requires { ⌜ Roomy (length (now list)) (length (now table)) (length (now out)) (length (now colours)) (length (now ends)) (length (now set)) ⌝ }
     ensures { λ r. ⌜ Reduces settings (now (list .entry)) (now (table .entry)) (lent (now (out .entry)) (now (colours .entry)) (now (ends .entry)) (now (set .entry))) (lent (now (out .exit)) (now (colours .exit)) (now (ends .exit)) (now (set .exit))) r ⌝ }
 {
-    create::create(list, ends);
-    let sizes = color::color(list, table, settings, colours, ends, set, seen);
+    create(list, ends);
+    let sizes = color(list, table, settings, colours, ends, set, seen);
     let tally = contract::contract(list, settings, colours, ends, set, sizes.members, out, seen);
     counts_of(sizes, tally)
 }

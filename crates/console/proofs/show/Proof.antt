@@ -2,7 +2,7 @@
 -- A reduced file has at most 512 records.
 use native.Mathlib.Omega.{arith}
 use borrow.Author.Needs.{needs}
-use Rattle.rudzaviks.proofs.reduce.Promise.{few-in-file}
+use Rattle.file.proofs.reduce.Promise.{few-in-file}
 use Rattle.console.proofs.show.Statement.{statement}
 use Rattle.console.proofs.show.Tie as tie
 

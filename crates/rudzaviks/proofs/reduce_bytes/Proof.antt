@@ -5,7 +5,7 @@ use native.Mathlib.Omega.{arith}
 use lib.ListN.{replicate}
 use borrow.Author.Needs.{needs}
 use Rattle.allocator.specs.Optimize.{report}
-use Rattle.rudzaviks.proofs.Sections.{Sections, sections}
+use Rattle.file.proofs.Sections.{Sections, sections}
 use Rattle.rudzaviks.proofs.ReduceBytes.{Words, words, written-promise, refused-bytes}
 use Rattle.rudzaviks.proofs.reduce_bytes.Statement.{statement}
 use Rattle.rudzaviks.proofs.reduce_bytes.Tie as tie

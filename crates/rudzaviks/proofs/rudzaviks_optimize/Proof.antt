@@ -7,7 +7,7 @@ use borrow.Author.Needs.{needs}
 use Rattle.mir.specs.declared.config.Settings.{Settings}
 use Rattle.walks.specs.Lent.{Lent, lent}
 use Rattle.allocator.specs.Optimize.{Optimized}
-use Rattle.rudzaviks.specs.Exports.{settingsOf}
+use Rattle.file.specs.File.{settingsOf}
 use Rattle.rudzaviks.proofs.Optimize.{entry-answered, entry-short}
 use Rattle.rudzaviks.proofs.rudzaviks_optimize.Statement.{statement}
 use Rattle.rudzaviks.proofs.rudzaviks_optimize.Tie as tie

@@ -4,8 +4,8 @@ use Prim.Native.Nat.{_≤_}
 use mathlib.Core.Path.{_≡_, refl}
 use lib.ListN.{length}
 use borrow.Author.Needs.{needs}
-use Rattle.mir.specs.Beside.{surveyOf, surveyReport}
-use Rattle.rudzaviks.specs.Exports.{flag}
+use Rattle.survey.specs.Beside.{surveyOf, surveyReport}
+use Rattle.file.specs.File.{flag}
 use Rattle.rudzaviks.proofs.Survey.{survey-answered, survey-short}
 use Rattle.rudzaviks.proofs.rudzaviks_survey.Statement.{statement}
 use Rattle.rudzaviks.proofs.rudzaviks_survey.Tie as tie

@@ -22,9 +22,10 @@ use Rattle.passes.proofs.Create.{names-to}
 use Rattle.passes.proofs.NeverEmpty.{ready-to, wanted-words}
 use Rattle.passes.proofs.Pool.{words}
 use Rattle.mir.specs.Answers.{over}
-use Rattle.walks.specs.Walks.{sourceWords, destWords, rewritten, foundsFor, foundsTo}
-use Rattle.walks.proofs.Over.{over-get}
-use Rattle.walks.proofs.color.Record.{same-sources-in}
+use Rattle.coloring.specs.Coloring.{sourceWords, foundsFor, foundsTo}
+use Rattle.walks.specs.Walks.{destWords, rewritten}
+use Rattle.mir.proofs.Over.{over-get}
+use Rattle.coloring.proofs.Record.{same-sources-in}
 
 -- ---- lists that grow
 

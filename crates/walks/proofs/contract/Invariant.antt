@@ -26,14 +26,16 @@ use Rattle.passes.proofs.Lengths.{reduced-length, counts-add}
 use Rattle.walks.specs.declared.contract.Tally.{Tally}
 use Rattle.mir.specs.Answers.{over}
 use Rattle.passes.specs.Contract.{isKept, outcomeNumber, readSet, outAt, outcomeAt, reducedTo, reduced, countTo, countOf, membersOf, wordsOf}
-use Rattle.walks.specs.Walks.{KnownIn, Colored, Contracted, Short, wasFound, rewritten, outcomeIn, foundsTo, marked, unmarked, tallied}
+use Rattle.lives.specs.Lives.{KnownIn}
+use Rattle.coloring.specs.Coloring.{wasFound, foundsTo, marked}
+use Rattle.walks.specs.Walks.{Colored, Contracted, Short, rewritten, outcomeIn, unmarked, tallied}
 use Rattle.walks.proofs.contract.Colours.{Grows, grows-get, founds-grow, rewritten-out}
-use Rattle.walks.proofs.color.Dests.{marked-length}
-use Rattle.walks.proofs.Over.{over-length, over-after}
-use Rattle.walks.proofs.locs.Pairs.{set-members, words-length}
-use Rattle.walks.proofs.color.Record.{all-statics, small, room, founds-length, found-flags}
+use Rattle.coloring.proofs.Dests.{marked-length}
+use Rattle.mir.proofs.Over.{over-length, over-after}
+use Rattle.sets.proofs.Pairs.{set-members, words-length}
+use Rattle.coloring.proofs.Record.{all-statics, small, room, founds-length, found-flags}
 use Rattle.walks.proofs.contract.Marks.{seen, seen-none, seen-past, seen-all, unmark-record}
-use Rattle.walks.proofs.Registers.{Walked, passing-list, walked-known}
+use Rattle.lives.proofs.Registers.{Walked, passing-list, walked-known}
 
 -- the counts of the first i records
 abbrev pub tallyTo : Settings → List ℕ → List ℕ → ℕ → Tally

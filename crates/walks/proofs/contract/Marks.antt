@@ -11,9 +11,10 @@ use lib.ListN.{length, getD, set}
 use Rattle.mir.specs.Records.{isGen}
 use Rattle.mir.specs.Renaming.{gens}
 use Rattle.mir.specs.Answers.{over}
-use Rattle.walks.specs.Walks.{mark, marked, unmarked}
-use Rattle.walks.proofs.color.Dests.{marked-at, marked-length}
-use Rattle.walks.proofs.Over.{over-get, over-set}
+use Rattle.coloring.specs.Coloring.{mark, marked}
+use Rattle.walks.specs.Walks.{unmarked}
+use Rattle.coloring.proofs.Dests.{marked-at, marked-length}
+use Rattle.mir.proofs.Over.{over-get, over-set}
 
 -- the flags after k statics were seen
 pub seen : ℕ → List Bool → List Bool

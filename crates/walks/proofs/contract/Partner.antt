@@ -18,7 +18,8 @@ use Rattle.mir.proofs.Shapes.{truth, each-from, by-kind, regs-in-record, regs-a
 use Rattle.passes.specs.Color.{sourceWord}
 use Rattle.passes.proofs.Lengths.{dests-length, sources-length}
 use Rattle.passes.proofs.Reduced.{splice-before, splice-after}
-use Rattle.walks.specs.Walks.{destWords, rewritten, sourceWords}
+use Rattle.coloring.specs.Coloring.{sourceWords}
+use Rattle.walks.specs.Walks.{destWords, rewritten}
 
 pub dest-words-length : (ws : List ℕ) (n : ℕ) (cs : List ℕ) → length (destWords ws n cs) ≡ length ws
 unfolding destWords

@@ -14,9 +14,10 @@ use Rattle.mir.specs.Inner.{listed}
 use Rattle.mir.specs.Shapes.{shapeFor, dests, sources}
 use Rattle.mir.proofs.Shapes.{regs-in-record}
 use Rattle.passes.specs.Color.{sourceWord}
-use Rattle.walks.specs.Walks.{destWords, sourceWords, rewritten}
+use Rattle.coloring.specs.Coloring.{sourceWords}
+use Rattle.walks.specs.Walks.{destWords, rewritten}
 use Rattle.passes.proofs.Lengths.{dests-length, sources-length}
-use Rattle.walks.proofs.Words.{window-next}
+use Rattle.mir.proofs.Words.{window-next}
 use Rattle.colours.proofs.Mapped.{map-snoc}
 use Rattle.walks.proofs.contract.Partner.{dest-words-length}
 

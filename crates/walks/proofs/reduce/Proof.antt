@@ -1,6 +1,6 @@
 -- `walks::reduce` meets its contract: the walks with an index that starts empty.
 use borrow.Author.Needs.{needs}
-use Rattle.walks.proofs.locs.Index.{indexed-none}
+use Rattle.sets.proofs.Index.{indexed-none}
 use Rattle.walks.proofs.reduce.Statement.{statement}
 use Rattle.walks.proofs.reduce.Tie as tie
 

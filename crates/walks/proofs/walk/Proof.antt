@@ -4,7 +4,7 @@ use Rattle.passes.specs.Contract.{membersOf}
 use mathlib.Core.Path.{_∙_}
 use native.Mathlib.Omega.{arith}
 use Rattle.walks.specs.Walks.{Colored, Roomy}
-use Rattle.walks.proofs.locs.Pairs.{set-members}
+use Rattle.sets.proofs.Pairs.{set-members}
 use Rattle.walks.proofs.Walks.{starts, colored, counts-are, few-colours, few-in-set, ends-last}
 use Rattle.passes.specs.Create.{endsOf}
 use lib.ListN.{length}

@@ -8,9 +8,10 @@ use lib.ListN.{length}
 use Rattle.mir.proofs.Renaming.{gens-two}
 use Rattle.mir.specs.Records.{fixedMark}
 use Rattle.mir.specs.declared.config.Settings.{Settings}
-use Rattle.walks.specs.Walks.{Passes, Colored}
+use Rattle.lives.specs.Lives.{Passes}
+use Rattle.walks.specs.Walks.{Colored}
 use Rattle.walks.proofs.contract.Invariant.{Call, Contracting, contracting-first, contract-asks, contracting-next, contracted, ends-same, out-same}
-use Rattle.walks.proofs.Registers.{Walked, walked-first, walked-next, few-words, gens-fit, few-statics}
+use Rattle.lives.proofs.Registers.{Walked, walked-first, walked-next, few-words, gens-fit, few-statics}
 use borrow.Author.Needs.{needs}
 use Rattle.walks.proofs.contract.contract.Statement.{statement}
 use Rattle.walks.proofs.contract.contract.Tie as tie

@@ -12,7 +12,8 @@ use Rattle.passes.specs.declared.symbol.Loc.{Loc}
 use Rattle.passes.specs.Color.{pairsFrom}
 use Rattle.passes.specs.Contract.{isKept, outcomeOf}
 use Rattle.mir.specs.Answers.{over}
-use Rattle.walks.specs.Walks.{wasFound, outcomeIn, tallied}
+use Rattle.coloring.specs.Coloring.{wasFound}
+use Rattle.walks.specs.Walks.{outcomeIn, tallied}
 use Rattle.walks.proofs.contract.Partner.{written-partner}
 use borrow.Author.Needs.{needs}
 use Rattle.walks.proofs.contract.contract_record.Statement.{statement}

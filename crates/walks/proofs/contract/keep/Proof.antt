@@ -1,5 +1,5 @@
 -- `walks::contract::keep` meets its contract: a record that is kept is put over the part from its place on.
-use Rattle.walks.proofs.Over.{part-over}
+use Rattle.mir.proofs.Over.{part-over}
 use borrow.Author.Needs.{needs}
 use Rattle.walks.proofs.contract.keep.Statement.{statement}
 use Rattle.walks.proofs.contract.keep.Tie as tie

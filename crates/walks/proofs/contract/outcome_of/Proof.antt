@@ -11,7 +11,7 @@ use Rattle.mir.proofs.Shapes.{isComplex}
 use Rattle.passes.specs.declared.alloc.Outcome.the-variants.{Kept, Load, Move}
 use Rattle.passes.specs.Color.{pairsFrom}
 use Rattle.walks.proofs.contract.Outcomes.{outcome-nop, outcome-mov, outcome-load, outcome-save, outcome-load-complex, outcome-save-complex, outcome-rest}
-use Rattle.walks.proofs.color.Sources.{partner-below}
+use Rattle.coloring.proofs.Sources.{partner-below}
 use borrow.Author.Needs.{needs}
 use Rattle.walks.proofs.contract.outcome_of.Statement.{statement}
 use Rattle.walks.proofs.contract.outcome_of.Tie as tie

@@ -7,7 +7,7 @@ use native.Mathlib.Omega.{arith}
 use lib.ListN.{length, getD, set, take}
 use lib.Seq.{length-take-le, take-suc, take-all}
 use Rattle.mir.specs.Answers.{over}
-use Rattle.walks.proofs.Over.{over-length, over-next}
+use Rattle.mir.proofs.Over.{over-length, over-next}
 use borrow.Author.Needs.{needs}
 use Rattle.walks.proofs.contract.push.Statement.{statement}
 use Rattle.walks.proofs.contract.push.Tie as tie

@@ -10,7 +10,7 @@ use Rattle.mir.specs.Inner.{currentsIn}
 use Rattle.mir.specs.Records.{maxRegs}
 use Rattle.passes.specs.Color.{sourceWord}
 use Rattle.walks.proofs.contract.Record.{changed-next}
-use Rattle.walks.proofs.Words.{fits-at}
+use Rattle.mir.proofs.Words.{fits-at}
 use borrow.Author.Needs.{needs}
 use Rattle.walks.proofs.contract.rewrite_words.Statement.{statement}
 use Rattle.walks.proofs.contract.rewrite_words.Tie as tie

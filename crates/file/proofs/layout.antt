@@ -1,0 +1,2 @@
+-- The file's words, src/layout.rt.
+pub mod Bytes

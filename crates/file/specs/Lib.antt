@@ -1,0 +1,2 @@
+-- Public: the file.
+pub mod File

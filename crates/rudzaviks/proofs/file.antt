@@ -1,2 +1,0 @@
--- The file's words, src/file.rt.
-pub mod Bytes

@@ -1,0 +1,2 @@
+-- Public: what a survey answers; what records and the questions mean is in mir.
+pub mod Beside

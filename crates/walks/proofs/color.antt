@@ -1,5 +1,0 @@
--- The third walk, src/color.rt: from the parts of a record to the loop.
-pub mod Sources
-pub mod Dests
-pub mod Record
-pub mod Invariant

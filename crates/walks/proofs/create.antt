@@ -1,2 +1,0 @@
--- The second walk, src/create.rt.
-pub mod Ends

@@ -1,3 +1,0 @@
--- The read set, src/locs.rt.
-pub mod Pairs
-pub mod Index
