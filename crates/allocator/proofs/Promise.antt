@@ -20,8 +20,8 @@ use Rattle.passes.specs.Color.{setup}
 use Rattle.passes.specs.Contract.{reduced, coloursOf, membersOf, wordsOf, countOf, countsOf}
 use Rattle.passes.specs.Create.{endsOf}
 use Rattle.passes.specs.Machine.{Passing, Preserves}
-use Rattle.passes.proofs.Lengths.{reduced-length}
-use Rattle.passes.proofs.Preserved.{list-preserved}
+use Rattle.theorems.proofs.Lengths.{reduced-length}
+use Rattle.theorems.proofs.Preserved.{list-preserved}
 use Rattle.allocator.specs.declared.Answer.the-variants.{Reduced, Refused}
 use Rattle.walks.specs.declared.Counts.{Counts}
 use Rattle.walks.specs.Lent.{Lent}

@@ -18,8 +18,8 @@ use Rattle.passes.specs.declared.alloc.Choice.{Choice}
 use Rattle.passes.specs.declared.alloc.Choice.the-variants.{Found, Free, Empty}
 use Rattle.passes.specs.declared.alloc.Held.{Held}
 use Rattle.passes.specs.Color.{Coloring, choose, chosen, isFound, choiceFor, assign, afterDest, afterDests, HasPool, HavePools}
-use Rattle.passes.proofs.Choice.{pool-not-empty}
-use Rattle.passes.proofs.Pool.{words}
+use Rattle.theorems.proofs.Choice.{pool-not-empty}
+use Rattle.theorems.proofs.Pool.{words}
 use Rattle.mir.specs.Answers.{over}
 use Rattle.colours.specs.declared.masks.Masks.{Masks}
 use Rattle.colours.specs.Colours.{allocsIn}

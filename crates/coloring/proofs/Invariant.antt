@@ -18,9 +18,9 @@ use Rattle.mir.proofs.Renaming.{statics-two}
 use Rattle.passes.specs.Color.{Setup, locOf, pairsFrom, joined, foundAt, colorTo}
 use Rattle.passes.specs.Create.{endsOf}
 use Rattle.passes.specs.Machine.{Passing}
-use Rattle.passes.proofs.ReadSet.{readsAt, members-next}
-use Rattle.passes.proofs.Members.{few-members}
-use Rattle.passes.proofs.NeverEmpty.{ready-to}
+use Rattle.theorems.proofs.ReadSet.{readsAt, members-next}
+use Rattle.theorems.proofs.Members.{few-members}
+use Rattle.theorems.proofs.NeverEmpty.{ready-to}
 use Rattle.mir.specs.Answers.{over}
 use Rattle.passes.specs.Contract.{wordsOf}
 use Rattle.colours.specs.declared.masks.Masks.{Masks}

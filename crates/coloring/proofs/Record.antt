@@ -23,12 +23,12 @@ use Rattle.mir.proofs.Passing.{ListPasses}
 use Rattle.passes.specs.declared.alloc.Held.{Held}
 use Rattle.passes.specs.Color.{Coloring, Setup, setup, colourAt, colourOf, sourceWord, heldBy, wantX, wantY, wanted, updateAllocs, locOf, isFound, choiceFor, afterDest, sourcesAt, destsAt, foundAll, foundAt, colorStep, colorTo}
 use Rattle.passes.specs.Create.{endsOf}
-use Rattle.passes.proofs.Create.{In, names-to, ends-length, ends-below, statics-mono}
-use Rattle.passes.proofs.Due.{due}
-use Rattle.passes.proofs.NeverEmpty.{source-below, ready-to, choices-of, wanted-words}
-use Rattle.passes.proofs.Pool.{words}
+use Rattle.theorems.proofs.Create.{In, names-to, ends-length, ends-below, statics-mono}
+use Rattle.theorems.proofs.Due.{due}
+use Rattle.theorems.proofs.NeverEmpty.{source-below, ready-to, choices-of, wanted-words}
+use Rattle.theorems.proofs.Pool.{words}
 use Rattle.mir.specs.Answers.{over}
-use Rattle.coloring.specs.Coloring.{Slices, slices, mark, destSteps, Ready, Coloured, sourceWords, wantedBy, recordStep, wasFound, foundsFor, foundsTo, marked}
+use Rattle.coloring.specs.Coloring.{Slices, slices, destSteps, Ready, Coloured, sourceWords, wantedBy, recordStep, wasFound, foundsFor, foundsTo, marked}
 use Rattle.mir.proofs.Over.{over-get}
 use Rattle.coloring.proofs.Dests.{slices-same, marked-length, marked-at, mark-shows, at, dests-at, ready-at}
 

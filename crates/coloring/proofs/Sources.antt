@@ -15,7 +15,7 @@ use Rattle.mir.specs.Shapes.{any, shapeOf, shapeFor, sources}
 use Rattle.mir.proofs.Passing.{word-fits}
 use Rattle.mir.proofs.Shapes.{each-from, rule, isComplex, complex-kind, regs-in-record, loc-in-record}
 use Rattle.passes.specs.Color.{locOf}
-use Rattle.passes.proofs.Lengths.{sources-length}
+use Rattle.theorems.proofs.Lengths.{sources-length}
 use Rattle.colours.specs.Colours.{sourcesUsed}
 use Rattle.colours.specs.Masks.{isIn}
 use Rattle.coloring.specs.Coloring.{Coloured}

@@ -12,7 +12,7 @@ use borrow.Author.Tests.{lt-ltb, le-leb, lt-leb, leb-true, leb-false, eqb-true, 
 use Rattle.mir.specs.Records.{isGen}
 use Rattle.passes.specs.declared.alloc.Alloc.{Alloc}
 use Rattle.passes.specs.Color.{colourAt}
-use Rattle.passes.proofs.Create.{In}
+use Rattle.theorems.proofs.Create.{In}
 use Rattle.colours.specs.declared.masks.Masks.{Masks}
 use Rattle.colours.specs.Colours.{Stands}
 use Rattle.colours.specs.Masks.{hasBit, isIn, Expired}

@@ -10,7 +10,7 @@ use lib.ListN.{replicate}
 use Rattle.passes.specs.declared.alloc.Alloc.{Alloc}
 use Rattle.passes.specs.declared.alloc.Held.the-variants.{Nothing, At}
 use Rattle.passes.specs.Color.{alloc, loc, colourAt, isNothing}
-use Rattle.passes.proofs.Locations.{blank-at}
+use Rattle.theorems.proofs.Locations.{blank-at}
 use Rattle.colours.specs.declared.masks.Masks.{Masks}
 use Rattle.colours.specs.Colours.{nothing, heldIn, allocsIn}
 use Rattle.colours.specs.Masks.{hasBit, isIn, Masked}

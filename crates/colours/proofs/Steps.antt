@@ -16,7 +16,7 @@ use Rattle.passes.specs.declared.alloc.Held.{Held}
 use Rattle.passes.specs.declared.alloc.Held.the-variants.{Nothing, At}
 use Rattle.passes.specs.declared.symbol.Loc.{Loc}
 use Rattle.passes.specs.Color.{alloc, colourAt, blank, isFree, isBare, isNothing, holds, without}
-use Rattle.passes.proofs.Locations.{blank-life, blank-nothing}
+use Rattle.theorems.proofs.Locations.{blank-life, blank-nothing}
 use Rattle.colours.specs.declared.masks.Masks.{Masks}
 use Rattle.colours.specs.Masks.{hasBit, Masked}
 use Rattle.colours.specs.Colours.{nothing, locIn, heldIn, allocsIn, Stands}

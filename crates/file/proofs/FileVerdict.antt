@@ -20,8 +20,8 @@ use Rattle.passes.specs.declared.alloc.Outcome.the-variants.{Kept}
 use Rattle.passes.specs.Color.{setup}
 use Rattle.passes.specs.Contract.{countsOf, countOf}
 use Rattle.passes.specs.Machine.{Passing, Preserves}
-use Rattle.passes.proofs.Lengths.{counts-add}
-use Rattle.passes.proofs.Preserved.{list-preserved}
+use Rattle.theorems.proofs.Lengths.{counts-add}
+use Rattle.theorems.proofs.Preserved.{list-preserved}
 use Rattle.file.specs.declared.layout.Layout.the-variants as layout
 use Rattle.file.specs.File.{settingsIn, pairCount, recordCount, tableIn, listIn, wellFormed, layoutOf, fileVerdict, fileCounts, fileReduced}
 use Rattle.file.proofs.Sections.{Sections, list-length}

@@ -21,7 +21,7 @@ use Rattle.mir.proofs.Renaming.{and-both}
 use Rattle.mir.proofs.Shapes.{each-from, by-kind, truth}
 use Rattle.passes.specs.Contract.{reduced}
 use Rattle.passes.specs.Machine.{Passing}
-use Rattle.passes.proofs.Reduced.{reduced-passes}
+use Rattle.theorems.proofs.Reduced.{reduced-passes}
 
 -- the largest values
 each-small : (ws : List ℕ) (p : ℕ) → all (λ w. leb w any) ws ≡ true → getD ws p 0 ≤ any

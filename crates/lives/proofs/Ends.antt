@@ -16,7 +16,7 @@ use Rattle.mir.specs.Renaming.{one, gens, staticsTo, regsTo}
 use Rattle.mir.specs.Shapes.{dests, sources}
 use Rattle.mir.proofs.Renaming.{gens-two}
 use Rattle.passes.specs.Create.{endedAt, consume, consumed, endsTo}
-use Rattle.passes.proofs.Create.{names-to, ends-length, consumed-length}
+use Rattle.theorems.proofs.Create.{names-to, ends-length, consumed-length}
 use Rattle.mir.specs.Answers.{over}
 use Rattle.lives.specs.Lives.{Known, created}
 use Rattle.mir.proofs.Over.{over-set, over-next}

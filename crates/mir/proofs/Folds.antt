@@ -1,7 +1,7 @@
 -- `allBelow`, `anyBelow` and `firstRefusal` as a loop meets them: nothing passed, one more, the first that fails, the end.
 -- By induction on the count; the code's `n + 1` is the definitions' `suc n`.
 use Prim.Native.Nat.{ℕ, zero, suc, _+_, _<_, _≤_}
-use mathlib.Core.Bool.{Bool, true, false, cond, not, _&&_, _||_, and-false, and-true, and-assoc, or-true, or-false}
+use mathlib.Core.Bool.{Bool, true, false, not, _&&_, _||_, and-false, and-true, and-assoc, or-true, or-false}
 use mathlib.Core.List.{List, [], _∷_, _++_}
 use mathlib.Core.Logic.{_⊎_, inl, inr, ⊎-elim}
 use mathlib.Core.Path.{_≡_, refl, sym, _∙_}

@@ -1,7 +1,6 @@
 -- The last of 64 registers and of 64 colours, `wide-cases`: it has a place in the state, takes a static and a location, is chosen
 -- if no other one is free, and found if it holds the location; one colour fewer, and the pool is empty.
 -- By computation.
-use Prim.Native.Nat.{ℕ}
 use mathlib.Core.List.{List, [], _∷_, _++_}
 use mathlib.Core.Path.{_≡_, refl}
 use lib.ListN.{length, getD, replicate}

@@ -8,7 +8,7 @@ use lib.ListN.{length}
 use borrow.Author.Tests.{le-leb, lt-leb}
 use Rattle.allocator.specs.declared.Answer.{Answer}
 use Rattle.walks.specs.Lent.{Lent}
-use Rattle.allocator.specs.Optimize.{Optimized, roomIn, verdictOf, report, recordsIn, left}
+use Rattle.allocator.specs.Optimize.{Optimized, roomIn, verdictOf, report, recordsIn}
 use Rattle.passes.specs.Contract.{countsOf}
 use Rattle.mir.specs.declared.config.Settings.{Settings}
 use Rattle.mir.specs.declared.questions.Verdict.{Verdict}

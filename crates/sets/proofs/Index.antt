@@ -15,9 +15,9 @@ use Rattle.mir.proofs.Clash.{clash}
 use Rattle.mir.proofs.Renaming.{and-both}
 use Rattle.passes.specs.declared.symbol.Loc.{Loc}
 use Rattle.passes.specs.Color.{sameLoc, isMember, join}
-use Rattle.passes.proofs.Choice.{same-loc}
-use Rattle.passes.proofs.ReadSet.{member-snoc}
-use Rattle.passes.proofs.Update.{same-or}
+use Rattle.theorems.proofs.Choice.{same-loc}
+use Rattle.theorems.proofs.ReadSet.{member-snoc}
+use Rattle.theorems.proofs.Update.{same-or}
 use Rattle.sets.specs.Sets.{isNear, cellOf, bitAt, withBit, Indexed, noted}
 use Rattle.colours.specs.Masks.{hasBit}
 use Rattle.colours.proofs.Bits.{has-none, has-with}

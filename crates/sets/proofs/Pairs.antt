@@ -12,8 +12,8 @@ use lib.ListN.{length, getD, set, drop, length-append}
 use Rattle.mir.proofs.Folds.{below-suc}
 use Rattle.passes.specs.declared.symbol.Loc.{Loc}
 use Rattle.passes.specs.Color.{loc, sameLoc, pairsFrom, isMember, join, joined}
-use Rattle.passes.proofs.Members.{pairs-length}
-use Rattle.passes.proofs.ReadSet.{member-snoc}
+use Rattle.theorems.proofs.Members.{pairs-length}
+use Rattle.theorems.proofs.ReadSet.{member-snoc}
 use Rattle.mir.specs.Answers.{over}
 use Rattle.passes.specs.Contract.{wordsOf}
 use Rattle.mir.proofs.Over.{over-next, over-length, over-over}

@@ -50,9 +50,3 @@ ones-digits zero n h =
     let e : n ≡ 0 = omega arith in
     rw e
 ones-digits (suc k) n h = ones-step n ∙ ap (λ (x : ℕ). n % 2 + x) (ones-digits k (n / 2) (omega arith))
-
--- a mask of k digits has at most k ones
-pub ones-most : (k n : ℕ) → onesIn k n ≤ k
-unfolding onesIn
-ones-most zero n = omega arith
-ones-most (suc k) n = omega (arith, ones-most k (n / 2))

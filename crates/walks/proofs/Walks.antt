@@ -13,8 +13,8 @@ use Rattle.mir.proofs.Renaming.{statics-two}
 use Rattle.passes.specs.Color.{setup}
 use Rattle.passes.specs.Create.{endsOf}
 use Rattle.passes.specs.Machine.{Passing}
-use Rattle.passes.proofs.Members.{few-members}
-use Rattle.passes.proofs.NeverEmpty.{ready-to}
+use Rattle.theorems.proofs.Members.{few-members}
+use Rattle.theorems.proofs.NeverEmpty.{ready-to}
 use Rattle.walks.specs.declared.contract.Tally.{Tally}
 use Rattle.passes.specs.Contract.{coloursOf, membersOf, countsOf, wordsOf}
 use Rattle.mir.specs.Answers.{over}

@@ -1,4 +1,4 @@
--- `walks::color::color` meets its contract: before each record the slices and the set are the definitions'.
+-- `coloring::color` meets its contract: before each record the slices and the set are the definitions'.
 -- By what `Colouring` says of a record.
 use Rattle.mir.proofs.Renaming.{statics-two, gens-two}
 use Prim.Native.Nat.{ℕ, _+_, _*_, _/_, _-_, _<_, _≤_}
@@ -13,7 +13,7 @@ use Rattle.coloring.specs.Coloring.{SlicesAre, foundsTo, marked}
 use Rattle.coloring.proofs.Invariant.{Call, state, Holds, Colouring, counted, setupOf, expire-asks, expire-gives, color-asks, color-gives}
 use Rattle.coloring.proofs.Invariant.{found-gives, reads-are, read-asks, read-gives, colours-same, ends-same}
 use Rattle.sets.proofs.Pairs.{set-length, set-pairs}
-use Rattle.passes.proofs.NeverEmpty.{ready-to}
+use Rattle.theorems.proofs.NeverEmpty.{ready-to}
 use Rattle.lives.proofs.Registers.{walked-first, walked-next, few-words, gens-fit, few-statics, passing-list}
 use borrow.Author.Needs.{needs}
 use Rattle.coloring.proofs.color.Statement.{statement}

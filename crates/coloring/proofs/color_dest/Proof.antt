@@ -1,4 +1,4 @@
--- `walks::color::color_dest` meets its contract: by what the choice comes to; an empty pool is ruled out by what is required.
+-- `coloring::color_dest` meets its contract: by what the choice comes to; an empty pool is ruled out by what is required.
 use Prim.Native.Nat.{_<_}
 use mathlib.Core.Path.{_≡_, refl, sym, subst, _∙_}
 use native.Mathlib.Omega.{arith}
@@ -7,7 +7,7 @@ use borrow.Author.Needs.{needs}
 use denote.Ref.{now}
 use Rattle.passes.specs.declared.alloc.Choice.the-variants.{Found, Free}
 use Rattle.passes.specs.Color.{choose}
-use Rattle.passes.proofs.Choice.{choose-found, choose-free}
+use Rattle.theorems.proofs.Choice.{choose-found, choose-free}
 use Rattle.colours.specs.Colours.{heldIn, allocsIn, Stands}
 use Rattle.coloring.specs.Coloring.{Slices, slicesIn, Picks}
 use Rattle.coloring.proofs.Dests.{step-named, step-found, step-free}

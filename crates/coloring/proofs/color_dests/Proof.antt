@@ -1,4 +1,4 @@
--- `walks::color::color_dests` meets its contract: x takes its colour before y.
+-- `coloring::color_dests` meets its contract: x takes its colour before y.
 use mathlib.Core.List.{[], _∷_}
 use mathlib.Core.Path.{_≡_, refl}
 use native.Mathlib.Omega.{arith}

@@ -1,4 +1,4 @@
--- `walks::color::color_record` meets its contract: sources, what the destinations are wanted with, destinations, action.
+-- `coloring::color_record` meets its contract: sources, what the destinations are wanted with, destinations, action.
 use Prim.Native.Nat.{ℕ, _<_}
 use mathlib.Core.Bool.{true}
 use mathlib.Core.List.{List}

@@ -1,4 +1,4 @@
--- `walks::color::expire_sources` meets its contract: the sources are the words that the shape says.
+-- `coloring::expire_sources` meets its contract: the sources are the words that the shape says.
 use native.Mathlib.Omega.{arith}
 use borrow.Author.Needs.{needs}
 use Rattle.mir.specs.Records.{maxRegs}

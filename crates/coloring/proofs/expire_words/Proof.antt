@@ -1,4 +1,4 @@
--- `walks::color::expire_words` meets its contract: the sources passed have become free, if their lives end here.
+-- `coloring::expire_words` meets its contract: the sources passed have become free, if their lives end here.
 -- By one word more of the words from a place on.
 use Prim.Native.Nat.{ℕ, _+_, _-_, _<_, _≤_}
 use mathlib.Core.List.{List, [], _∷_, _++_, map}

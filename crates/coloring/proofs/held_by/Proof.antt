@@ -1,4 +1,4 @@
--- `walks::color::held_by` meets its contract: the branch's test picks the case.
+-- `coloring::held_by` meets its contract: the branch's test picks the case.
 use borrow.Author.Tests.{lt-ltb, le-ltb}
 use borrow.Author.Needs.{needs}
 use Rattle.coloring.proofs.held_by.Statement.{statement}

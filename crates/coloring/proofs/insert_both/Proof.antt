@@ -1,4 +1,4 @@
--- `walks::color::insert_both` meets its contract: the location joins before its partner.
+-- `coloring::insert_both` meets its contract: the location joins before its partner.
 -- By the laws of the set's slice.
 use Prim.Native.Nat.{_*_, _≤_}
 use mathlib.Core.Path.{ap, _∙_}

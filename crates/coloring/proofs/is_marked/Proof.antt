@@ -1,4 +1,4 @@
--- `walks::color::is_marked` meets its contract: both tests are the definition's.
+-- `coloring::is_marked` meets its contract: both tests are the definition's.
 use borrow.Author.Tests.{lt-ltb, le-ltb}
 use borrow.Author.Needs.{needs}
 use Rattle.coloring.proofs.is_marked.Statement.{statement}

@@ -1,4 +1,4 @@
--- `walks::color::loc_of` meets its contract: the location stands where the shape says.
+-- `coloring::loc_of` meets its contract: the location stands where the shape says.
 use mathlib.Core.Path.{ap}
 use native.Mathlib.Omega.{arith}
 use lib.ListN.{getD}

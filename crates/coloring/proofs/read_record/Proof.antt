@@ -1,4 +1,4 @@
--- `walks::color::read_record` meets its contract: by the action, what the record reads joins.
+-- `coloring::read_record` meets its contract: by the action, what the record reads joins.
 use mathlib.Core.Bool.{false}
 use mathlib.Core.Path.{_≡_, sym, ap, _∙_}
 use denote.Ref.{now}
@@ -11,7 +11,7 @@ use Rattle.mir.specs.Records.{wordAt}
 use Rattle.mir.specs.Shapes.{shapeFor}
 use Rattle.mir.proofs.Shapes.{args-kind, isComplex}
 use Rattle.passes.specs.Color.{pairsFrom, joined}
-use Rattle.passes.proofs.Members.{args-inside}
+use Rattle.theorems.proofs.Members.{args-inside}
 use Rattle.mir.specs.Answers.{over}
 use Rattle.passes.specs.Contract.{wordsOf}
 use Rattle.sets.proofs.Pairs.{set-first}

@@ -1,4 +1,4 @@
--- `walks::color::source_at` meets its contract: the sources stand where the shape says.
+-- `coloring::source_at` meets its contract: the sources stand where the shape says.
 use Prim.Native.Nat.{_+_, _≤_, _<_}
 use mathlib.Core.Path.{_≡_, sym, ap, _∙_}
 use native.Mathlib.Omega.{arith}

@@ -1,4 +1,4 @@
--- `walks::color::want_x` meets its contract: by the action.
+-- `coloring::want_x` meets its contract: by the action.
 -- The arms for several actions by what holds at each of their tags.
 use mathlib.Core.List.{[], _∷_}
 use mathlib.Core.Path.{_≡_, refl, ap, _∙_}
@@ -6,7 +6,7 @@ use native.Mathlib.Omega.{arith}
 use borrow.Author.Needs.{needs}
 use Rattle.passes.specs.declared.alloc.Held.the-variants.{Nothing}
 use Rattle.passes.specs.Color.{heldBy, wantX}
-use Rattle.passes.proofs.Actions.{in-arm}
+use Rattle.theorems.proofs.Actions.{in-arm}
 use Rattle.colours.specs.Colours.{heldIn}
 use Rattle.colours.proofs.Colours.{held-word, held-by-word}
 use Rattle.coloring.proofs.want_x.Statement.{statement}

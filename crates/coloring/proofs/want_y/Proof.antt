@@ -1,11 +1,11 @@
--- `walks::color::want_y` meets its contract: by the action.
+-- `coloring::want_y` meets its contract: by the action.
 -- The arm for the rest by what holds at each of their tags.
 use mathlib.Core.List.{[], _∷_}
 use mathlib.Core.Path.{_≡_, refl, _∙_}
 use borrow.Author.Needs.{needs}
 use Rattle.passes.specs.declared.alloc.Held.the-variants.{Nothing}
 use Rattle.passes.specs.Color.{wantY}
-use Rattle.passes.proofs.Actions.{in-arm}
+use Rattle.theorems.proofs.Actions.{in-arm}
 use Rattle.colours.proofs.Colours.{held-word}
 use Rattle.coloring.proofs.want_y.Statement.{statement}
 use Rattle.coloring.proofs.want_y.Tie as tie

@@ -1,9 +1,8 @@
--- `walks::color::was_found` meets its contract: by the destinations; y's static comes after x's, which is one if x is marked.
+-- `coloring::was_found` meets its contract: by the destinations; y's static comes after x's, which is one if x is marked.
 use Prim.Native.Nat.{ℕ}
 use mathlib.Core.Bool.{Bool, true, false, cond, _&&_, and-true, false≢true}
 use mathlib.Core.List.{[], _∷_}
 use mathlib.Core.Path.{_≡_, refl, sym, _∙_}
-use native.Mathlib.Omega.{arith}
 use borrow.Author.Tests.{not-true, not-false}
 use Rattle.mir.specs.Shapes.{dests}
 use Rattle.mir.proofs.Shapes.{dests-told}

@@ -1,4 +1,4 @@
--- `walks::create::consume` meets its contract: the register's current static says which case of the definition holds.
+-- `lives::consume` meets its contract: the register's current static says which case of the definition holds.
 use mathlib.Core.Path.{_≡_, _∙_}
 use borrow.Author.Tests.{lt-ltb, le-ltb}
 use denote.Ref.{now}

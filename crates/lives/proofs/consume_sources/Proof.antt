@@ -1,4 +1,4 @@
--- `walks::create::consume_sources` meets its contract: the sources are the words that the shape says.
+-- `lives::consume_sources` meets its contract: the sources are the words that the shape says.
 use Prim.Native.Nat.{_+_}
 use mathlib.Core.Path.{ap, _∙_}
 use native.Mathlib.Omega.{arith}

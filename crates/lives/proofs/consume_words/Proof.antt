@@ -1,4 +1,4 @@
--- `walks::create::consume_words` meets its contract: the sources passed have been read.
+-- `lives::consume_words` meets its contract: the sources passed have been read.
 -- By one word more of the words from a place on.
 use Prim.Native.Nat.{_+_, _-_, _≤_}
 use mathlib.Core.Path.{_≡_, refl, sym, ap, _∙_}
@@ -7,7 +7,7 @@ use denote.Ref.{now}
 use lib.ListN.{length, getD, take, drop}
 use Rattle.mir.specs.Inner.{currentsIn}
 use Rattle.passes.specs.Create.{consume, consumed}
-use Rattle.passes.proofs.Create.{consumed-length}
+use Rattle.theorems.proofs.Create.{consumed-length}
 use Rattle.mir.specs.Records.{maxRegs}
 use Rattle.mir.proofs.Words.{window-next, fits-at}
 use Rattle.lives.proofs.Ends.{consumed-next}

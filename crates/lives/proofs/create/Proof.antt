@@ -1,4 +1,4 @@
--- `walks::create::create` meets its contract: after each record the slice starts with the ends so far.
+-- `lives::create` meets its contract: after each record the slice starts with the ends so far.
 -- Beside the renaming that every walk keeps, by the law `ends-next`.
 use Prim.Native.Nat.{ℕ, _+_, _*_, _/_, _-_, _<_, _≤_}
 use mathlib.Core.List.{List}
@@ -10,7 +10,7 @@ use Rattle.mir.specs.Records.{recordAt}
 use Rattle.mir.specs.Shapes.{dests, sources}
 use Rattle.mir.proofs.Renaming.{gens-two, statics-two}
 use Rattle.passes.specs.Create.{consumed, endsTo, endsOf}
-use Rattle.passes.proofs.Create.{ends-length}
+use Rattle.theorems.proofs.Create.{ends-length}
 use Rattle.mir.specs.Answers.{over}
 use Rattle.lives.specs.Lives.{created}
 use Rattle.mir.proofs.Over.{over-length}

@@ -1,4 +1,4 @@
--- `walks::create::create_static` meets its contract: the branch's test picks the case.
+-- `lives::create_static` meets its contract: the branch's test picks the case.
 use borrow.Author.Tests.{lt-ltb, le-ltb}
 use borrow.Author.Needs.{needs}
 use Rattle.lives.proofs.create_static.Statement.{statement}

@@ -1,4 +1,4 @@
--- `walks::create::create_statics` meets its contract: x is written before y.
+-- `lives::create_statics` meets its contract: x is written before y.
 use mathlib.Core.List.{[], _∷_}
 use mathlib.Core.Path.{_≡_}
 use native.Mathlib.Omega.{arith}

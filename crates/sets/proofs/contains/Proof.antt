@@ -1,4 +1,4 @@
--- `walks::locs::contains` meets its contract: the index tells of a near location, and the scan of any other.
+-- `sets::contains` meets its contract: the index tells of a near location, and the scan of any other.
 -- By the index's law.
 use mathlib.Core.Bool.{true}
 use mathlib.Core.Path.{_≡_, sym, _∙_}

@@ -1,4 +1,4 @@
--- `walks::locs::extend` meets its contract: the pairs passed have joined.
+-- `sets::extend` meets its contract: the pairs passed have joined.
 -- By the laws of pairs; more pairs leave no fewer members, so the room for all is room for each.
 use Prim.Native.Nat.{ℕ, _-_, _≤_}
 use mathlib.Core.List.{List}

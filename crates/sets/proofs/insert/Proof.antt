@@ -1,4 +1,4 @@
--- `walks::locs::insert` meets its contract: a new member's words go after those of the others.
+-- `sets::insert` meets its contract: a new member's words go after those of the others.
 -- By the laws of pairs.
 use Prim.Native.Nat.{_*_, _+_, _≤_}
 use mathlib.Core.Bool.{false}

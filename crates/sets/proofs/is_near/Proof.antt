@@ -1,4 +1,4 @@
--- `walks::locs::is_near` meets its contract: both parts of the location are small.
+-- `sets::is_near` meets its contract: both parts of the location are small.
 use borrow.Author.Tests.{lt-ltb, le-ltb}
 use Rattle.sets.proofs.is_near.Statement.{statement}
 use Rattle.sets.proofs.is_near.Tie as tie

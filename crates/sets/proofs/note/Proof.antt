@@ -1,4 +1,4 @@
--- `walks::locs::note` meets its contract: a near location has its bit in the index.
+-- `sets::note` meets its contract: a near location has its bit in the index.
 use mathlib.Core.Bool.{true}
 use mathlib.Core.Path.{_≡_, refl, sym, _∙_}
 use borrow.Author.Needs.{needs}

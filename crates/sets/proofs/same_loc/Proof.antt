@@ -1,4 +1,4 @@
--- `walks::locs::same_loc` meets its contract: both tests are the definition's.
+-- `sets::same_loc` meets its contract: both tests are the definition's.
 use borrow.Author.Tests.{eq-eqb, ne-eqb}
 use Rattle.sets.proofs.same_loc.Statement.{statement}
 use Rattle.sets.proofs.same_loc.Tie as tie

@@ -1,4 +1,4 @@
--- `walks::locs::scan` meets its contract: no pair passed is the location.
+-- `sets::scan` meets its contract: no pair passed is the location.
 -- By the laws of pairs.
 use Prim.Native.Nat.{_≤_, _-_}
 use mathlib.Core.Bool.{true, false}

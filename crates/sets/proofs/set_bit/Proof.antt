@@ -1,4 +1,4 @@
--- `walks::locs::set_bit` meets its contract: the shift within a word of 64 bits is a power of two.
+-- `sets::set_bit` meets its contract: the shift within a word of 64 bits is a power of two.
 use Prim.Native.Nat.{_%_}
 use native.Mathlib.Omega.{arith}
 use borrow.Author.Needs.{needs}

@@ -18,9 +18,9 @@ use Rattle.passes.specs.declared.alloc.Held.{Held}
 use Rattle.passes.specs.Color.{Coloring, Setup, setup, choiceFor, chosen, assign, afterDest, afterDests, wordFor, wordsFor, sourcesAt, destsAt, colored, colorStep, colorTo}
 use Rattle.passes.specs.Contract.{outAt, coloursOf}
 use Rattle.passes.specs.Create.{endsOf}
-use Rattle.passes.proofs.Create.{names-to}
-use Rattle.passes.proofs.NeverEmpty.{ready-to, wanted-words}
-use Rattle.passes.proofs.Pool.{words}
+use Rattle.theorems.proofs.Create.{names-to}
+use Rattle.theorems.proofs.NeverEmpty.{ready-to, wanted-words}
+use Rattle.theorems.proofs.Pool.{words}
 use Rattle.mir.specs.Answers.{over}
 use Rattle.coloring.specs.Coloring.{sourceWords, foundsFor, foundsTo}
 use Rattle.walks.specs.Walks.{destWords, rewritten}

@@ -22,7 +22,7 @@ use Rattle.passes.specs.declared.alloc.Outcome.{Outcome}
 use Rattle.passes.specs.declared.alloc.Outcome.the-variants.{Kept, Nop, Load, Move, Save}
 use Rattle.passes.specs.Color.{Setup, setup, pairsFrom, foundAt, colorTo}
 use Rattle.passes.specs.Create.{endsOf}
-use Rattle.passes.proofs.Lengths.{reduced-length, counts-add}
+use Rattle.theorems.proofs.Lengths.{reduced-length, counts-add}
 use Rattle.walks.specs.declared.contract.Tally.{Tally}
 use Rattle.mir.specs.Answers.{over}
 use Rattle.passes.specs.Contract.{isKept, outcomeNumber, readSet, outAt, outcomeAt, reducedTo, reduced, countTo, countOf, membersOf, wordsOf}

@@ -16,8 +16,8 @@ use Rattle.mir.specs.Renaming.{one}
 use Rattle.mir.specs.Shapes.{any, shapeOf, shapeFor, dests, sources}
 use Rattle.mir.proofs.Shapes.{truth, each-from, by-kind, regs-in-record, regs-after-kind}
 use Rattle.passes.specs.Color.{sourceWord}
-use Rattle.passes.proofs.Lengths.{dests-length, sources-length}
-use Rattle.passes.proofs.Reduced.{splice-before, splice-after}
+use Rattle.theorems.proofs.Lengths.{dests-length, sources-length}
+use Rattle.theorems.proofs.Reduced.{splice-before, splice-after}
 use Rattle.coloring.specs.Coloring.{sourceWords}
 use Rattle.walks.specs.Walks.{destWords, rewritten}
 

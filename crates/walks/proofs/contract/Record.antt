@@ -16,7 +16,7 @@ use Rattle.mir.proofs.Shapes.{regs-in-record}
 use Rattle.passes.specs.Color.{sourceWord}
 use Rattle.coloring.specs.Coloring.{sourceWords}
 use Rattle.walks.specs.Walks.{destWords, rewritten}
-use Rattle.passes.proofs.Lengths.{dests-length, sources-length}
+use Rattle.theorems.proofs.Lengths.{dests-length, sources-length}
 use Rattle.mir.proofs.Words.{window-next}
 use Rattle.colours.proofs.Mapped.{map-snoc}
 use Rattle.walks.proofs.contract.Partner.{dest-words-length}

@@ -5,7 +5,7 @@ use native.Mathlib.Omega.{arith}
 use borrow.Author.Needs.{needs}
 use denote.Ref.{now}
 use Rattle.passes.specs.Color.{updateAllocs}
-use Rattle.passes.proofs.Actions.{in-arm}
+use Rattle.theorems.proofs.Actions.{in-arm}
 use Rattle.colours.specs.Colours.{Stands}
 use Rattle.colours.proofs.allocs.update_allocs.Statement.{statement}
 use Rattle.colours.proofs.allocs.update_allocs.Tie as tie

@@ -16,25 +16,25 @@ use Rattle.mir.specs.Records.{isGen, fixedMark}
 use Rattle.mir.specs.Shapes.{row, shapeOf, shapeFor, dests, sources}
 use Rattle.mir.proofs.Clash.{clash}
 use Rattle.mir.proofs.Renaming.{and-both}
 use Rattle.passes.specs.declared.alloc.Alloc.{Alloc}
 use Rattle.passes.specs.declared.alloc.Held.{Held}
 use Rattle.passes.specs.declared.alloc.Held.the-variants.{Nothing, At}
 use Rattle.passes.specs.declared.alloc.Outcome.{Outcome}
 use Rattle.passes.specs.declared.alloc.Outcome.the-variants as outcome
 use Rattle.passes.specs.declared.symbol.Loc.{Loc}
 use Rattle.passes.specs.Color.{loc, heldBy, clear, give, updateAllocs, isMember, wordFor, wordsFor, foundAt, colored}
 use Rattle.passes.specs.Contract.{outcomeOf, outAt, outcomeAt, isKept, readSet, isBeyond}
 use Rattle.passes.specs.Create.{endsOf}
 use Rattle.passes.specs.Machine.{Meaning, State, store, storeBoth, finish, effect, turn, isScalar, isStraight, EndsEqual}
-use Rattle.passes.proofs.OneRecord.{Same, Running, running-same, Place, Before, count, made, state, rec, regs, src, wants, dsts, Looked}
-use Rattle.passes.proofs.OneRecord.{source-same, source-small, cell-same, dests-after, dests-same, none-after}
-use Rattle.passes.proofs.Assign.{Live, SimIn, live-later}
-use Rattle.passes.proofs.Create.{In}
-use Rattle.passes.proofs.Ends.{turn-runs}
-use Rattle.passes.proofs.Locations.{clear-give}
-use Rattle.passes.proofs.ReadSet.{InLocs, readsAt}
-use Rattle.passes.proofs.Saves.{savedTo, live-save, sim-store, sim-unseen}
-use Rattle.passes.proofs.Writes.{Valued, writeAll, any-values, write-self}
+use Rattle.theorems.proofs.OneRecord.{Same, Running, running-same, Place, Before, count, made, state, rec, regs, src, wants, dsts, Looked}
+use Rattle.theorems.proofs.OneRecord.{source-same, source-small, cell-same, dests-after, dests-same, none-after}
+use Rattle.theorems.proofs.Assign.{Live, SimIn, live-later}
+use Rattle.theorems.proofs.Create.{In}
+use Rattle.theorems.proofs.Ends.{turn-runs}
+use Rattle.theorems.proofs.Locations.{clear-give}
+use Rattle.theorems.proofs.ReadSet.{InLocs, readsAt}
+use Rattle.theorems.proofs.Saves.{savedTo, live-save, sim-store, sim-unseen}
+use Rattle.theorems.proofs.Writes.{Valued, writeAll, any-values, write-self}
 
 -- both runs are over, and ended equal
 pub record Stopped {Value : Type 0} (s : Settings) (A B : State Value) : Type 0 where

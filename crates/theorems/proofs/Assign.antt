@@ -13,15 +13,15 @@ use native.Mathlib.Decide.{decLt}
 use Rattle.mir.specs.declared.rename.Current.{Current}
 use Rattle.mir.specs.declared.rename.Current.the-variants.{Static, Unset}
 use Rattle.mir.proofs.Clash.{clash}
 use Rattle.passes.specs.declared.alloc.Alloc.{Alloc}
 use Rattle.passes.specs.declared.alloc.Held.{Held}
 use Rattle.passes.specs.declared.alloc.Held.the-variants.{Nothing, At}
 use Rattle.passes.specs.declared.symbol.Loc.{Loc}
 use Rattle.passes.specs.Color.{alloc, colourAt, assign}
 use Rattle.passes.specs.Machine.{State, write}
-use Rattle.passes.proofs.Create.{Names}
-use Rattle.passes.proofs.Sim.{Sim, Assigned, into-gen}
-use Rattle.passes.proofs.Update.{upd, upd-at, upd-else, same-or}
+use Rattle.theorems.proofs.Create.{Names}
+use Rattle.theorems.proofs.Sim.{Sim, Assigned, into-gen}
+use Rattle.theorems.proofs.Update.{upd, upd-at, upd-else, same-or}
 
 -- a register's static, a static's colour and end, and a colour's location, from the lists
 abbrev pub staticIn : List Current → ℕ → Current

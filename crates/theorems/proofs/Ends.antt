@@ -13,8 +13,8 @@ use borrow.Author.Tests.{eqb-true, le-leb, lt-leb}
 use Rattle.mir.specs.Records.{records, recordAt, wordAt}
 use Rattle.mir.specs.Shapes.{branch, branchIf}
 use Rattle.mir.proofs.Clash.{clash}
 use Rattle.passes.specs.Machine.{Meaning, State, Point, effect, turn, runTo, run, jumps, step, ended, onward, stepsTo, EndsIn, isStraight, AllStraight}
-use Rattle.passes.proofs.Rows.{kind-at}
+use Rattle.theorems.proofs.Rows.{kind-at}
 
 pub not-both {ℓ} : {P : Type ℓ} {b : Bool} → b ≡ true → b ≡ false → P
 not-both e f =

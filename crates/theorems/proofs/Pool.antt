@@ -27,12 +27,12 @@ use Rattle.mir.specs.Folds.{all}
 use Rattle.mir.specs.Questions.{genFits}
 use Rattle.mir.specs.Records.{isGen}
 use Rattle.mir.specs.Renaming.{gens, produced}
 use Rattle.passes.specs.Color.{Coloring, alloc, colourAt, isFree, isFound, choose, chosen, assign, HasPool, HavePools, wordFor}
 use Rattle.passes.specs.Color.{wordsFor, afterDest, afterDests}
-use Rattle.passes.proofs.Choice.{choose-free, choose-found, choose-empty}
-use Rattle.passes.proofs.Create.{Names, names-set, produced-old}
-use Rattle.passes.proofs.Pigeon.{no-room}
-use Rattle.passes.proofs.Update.{same-or}
+use Rattle.theorems.proofs.Choice.{choose-free, choose-found, choose-empty}
+use Rattle.theorems.proofs.Create.{Names, names-set, produced-old}
+use Rattle.theorems.proofs.Pigeon.{no-room}
+use Rattle.theorems.proofs.Update.{same-or}
 
 -- who owns colour c: a register below n, its static, whose colour is c and whose end is the colour's life
 pub record Owner (n : ℕ) (E : List ℕ) (regs : List Current) (colours : List ℕ) (c life : ℕ) : Type 0 where

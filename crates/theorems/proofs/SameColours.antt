@@ -8,11 +8,11 @@ use mathlib.Core.Path.{_≡_, refl}
 use lib.Dec.{eqb}
 use Rattle.mir.specs.Records.{recordAt, wordAt, isGen}
 use Rattle.mir.specs.Shapes.{shapeFor}
 use Rattle.passes.specs.declared.alloc.Held.{Held}
 use Rattle.passes.specs.declared.symbol.Loc.{Loc}
 use Rattle.passes.specs.Color.{Setup, Coloring, locOf, pairsFrom, reads, joined, isFound, choiceFor}
 use Rattle.passes.specs.Color.{afterDest, afterDests, sourcesAt, destsAt, colorStep, colorTo}
-use Rattle.passes.proofs.Pool.{given, colourFor, after-gen, after-named}
+use Rattle.theorems.proofs.Pool.{given, colourFor, after-gen, after-named}
 
 -- two states with the same colours
 pub record Alike (a b : Coloring) : Type 0 where

@@ -16,9 +16,9 @@ use Rattle.mir.specs.Records.{records, recordAt, wordAt, isGen}
 use Rattle.mir.specs.Renaming.{regsTo, staticsTo}
 use Rattle.mir.specs.Shapes.{branchIf, sources}
 use Rattle.mir.proofs.Passing.{ListPasses}
 use Rattle.passes.specs.Create.{endsOf}
-use Rattle.passes.proofs.Create.{In, all-in, Unread, statics-grow, unread-end}
-use Rattle.passes.proofs.Update.{never-falls}
+use Rattle.theorems.proofs.Create.{In, all-in, Unread, statics-grow, unread-end}
+use Rattle.theorems.proofs.Update.{never-falls}
 
 module _ (list : List ℕ) where
   past-below : (i : ℕ) → pastTo list i ≤ staticsTo list i

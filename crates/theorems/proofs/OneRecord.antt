@@ -19,21 +19,21 @@ use Rattle.mir.specs.Shapes.{shapeFor, dests, sources}
 use Rattle.mir.proofs.Clash.{clash}
 use Rattle.mir.proofs.Passing.{ListPasses}
 use Rattle.mir.proofs.Renaming.{regs-length}
 use Rattle.passes.specs.declared.alloc.Alloc.{Alloc}
 use Rattle.passes.specs.declared.alloc.Held.{Held}
 use Rattle.passes.specs.declared.symbol.Loc.{Loc}
 use Rattle.passes.specs.Color.{Setup, setup, Coloring, loc, locOf, blank, colourOf, sourceWord}
 use Rattle.passes.specs.Color.{updateAllocs, isMember, wordsFor, foundAt, afterDests, sourcesAt, destsAt, colorStep, colorTo}
 use Rattle.passes.specs.Contract.{isBeyond, readSet}
 use Rattle.passes.specs.Create.{endsOf}
 use Rattle.passes.specs.Machine.{State}
-use Rattle.passes.proofs.Assign.{Live, SimIn, staticIn, numberIn}
-use Rattle.passes.proofs.Create.{In, read-end}
-use Rattle.passes.proofs.Locations.{no-location}
-use Rattle.passes.proofs.NeverEmpty.{regs-next, before-of, wanted-words, source-static, source-below}
-use Rattle.passes.proofs.Pool.{words}
-use Rattle.passes.proofs.ReadSet.{InLocs, readsAt, is-read}
-use Rattle.passes.proofs.Writes.{Wrote, Valued, writeAll, still-over, write-dests}
+use Rattle.theorems.proofs.Assign.{Live, SimIn, staticIn, numberIn}
+use Rattle.theorems.proofs.Create.{In, read-end}
+use Rattle.theorems.proofs.Locations.{no-location}
+use Rattle.theorems.proofs.NeverEmpty.{regs-next, before-of, wanted-words, source-static, source-below}
+use Rattle.theorems.proofs.Pool.{words}
+use Rattle.theorems.proofs.ReadSet.{InLocs, readsAt, is-read}
+use Rattle.theorems.proofs.Writes.{Wrote, Valued, writeAll, still-over, write-dests}
 
 -- ---- what agrees
 

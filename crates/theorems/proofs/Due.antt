@@ -15,12 +15,12 @@ use Rattle.mir.specs.Renaming.{regsTo}
 use Rattle.mir.specs.Shapes.{sources}
 use Rattle.mir.proofs.Clash.{clash}
 use Rattle.mir.proofs.Passing.{ListPasses}
 use Rattle.passes.specs.Color.{setup, colourAt, sourceWord, sourcesAt, colorTo}
 use Rattle.passes.specs.Create.{endsOf}
-use Rattle.passes.proofs.Create.{In, names-to, read-last}
-use Rattle.passes.proofs.NeverEmpty.{ready-to}
-use Rattle.passes.proofs.Pool.{Owned}
-use Rattle.passes.proofs.Update.{same-or}
+use Rattle.theorems.proofs.Create.{In, names-to, read-last}
+use Rattle.theorems.proofs.NeverEmpty.{ready-to}
+use Rattle.theorems.proofs.Pool.{Owned}
+use Rattle.theorems.proofs.Update.{same-or}
 
 pub in-map : (f : ℕ → ℕ) (ws : List ℕ) (w : ℕ) → In w ws → In (f w) (map f ws)
 in-map f [] w m = m

@@ -2,39 +2,36 @@
 -- and ended equal. The reduced run makes the step too if the record is kept, and waits if it is dropped.
 -- A record of a straight kind has its law (`step`). To a Label control may come from anywhere, so there only what everybody looks at is
 -- the same; a branch leaves that as it is, and past a BranchIf nothing that was written before it is still to be read.
-use Prim.Native.Nat.{ℕ, zero, suc, _≤_, _<_}
-use mathlib.Core.Bool.{Bool, true, false, cond, _||_, or-false}
-use mathlib.Core.List.{List, [], _∷_}
+use Prim.Native.Nat.{ℕ, suc, _≤_, _<_}
+use mathlib.Core.Bool.{Bool, true, false, cond, _||_}
+use mathlib.Core.List.{List}
 use mathlib.Core.Logic.{_⊎_, inl, inr, ⊎-elim}
 use mathlib.Core.Path.{_≡_, refl, sym, ap, subst, _∙_}
 use native.Mathlib.Omega.{arith}
 use lib.Dec.{eqb}
-use lib.ListN.{getD}
 use borrow.Author.Tests.{eqb-true}
 use Rattle.mir.specs.declared.config.Settings.{Settings}
 use Rattle.mir.specs.declared.rename.Current.the-variants.{Static}
-use Rattle.mir.specs.declared.shape.Action.the-variants as action
 use Rattle.mir.specs.Branches.{labelAt, isBranch, labelOf}
-use Rattle.mir.specs.Folds.{anyBelow, lastBelow}
 use Rattle.mir.specs.Questions.{hasLabel}
-use Rattle.mir.specs.Records.{records, recordAt, wordAt, fixedMark}
+use Rattle.mir.specs.Records.{records, recordAt, wordAt}
 use Rattle.mir.specs.Renaming.{produced, renamed, regsTo}
 use Rattle.mir.specs.Shapes.{label, branch, branchIf, row, shapeOf, dests, sources}
 use Rattle.mir.proofs.Clash.{clash}
 use Rattle.mir.proofs.Passing.{ListPasses}
 use Rattle.passes.specs.Color.{Setup, setup, colorTo, colored, wordsFor, sourceWord}
-use Rattle.passes.specs.Contract.{isKept, outcomeOf, outcomeAt, outAt, reduced}
+use Rattle.passes.specs.Contract.{outcomeOf, outcomeAt, outAt, reduced}
 use Rattle.passes.specs.Create.{endsOf}
 use Rattle.passes.specs.Machine.{Meaning, State, Point, effect, turn, jumps, target, step, isStraight, isCovered}
-use Rattle.passes.proofs.Assign.{staticIn, numberIn}
-use Rattle.passes.proofs.Create.{names-to, not-fresh}
-use Rattle.passes.proofs.Ends.{straight-goes-on, turn-runs}
-use Rattle.passes.proofs.Landing.{last-holds, label-kind, kept, place, place-next, kept-record, target-same}
-use Rattle.passes.proofs.OneRecord.{Same, Running, running-same, Place, reset-after, source-same}
-use Rattle.passes.proofs.Past.{stale-end}
-use Rattle.passes.proofs.Reduced.{same-kind, same-word}
-use Rattle.passes.proofs.Rows.{record-length, eight}
-use Rattle.passes.proofs.Steps.{Stopped, Agree, or-cases, straight-step}
+use Rattle.theorems.proofs.Assign.{staticIn, numberIn}
+use Rattle.theorems.proofs.Create.{names-to, not-fresh}
+use Rattle.theorems.proofs.Ends.{straight-goes-on, turn-runs}
+use Rattle.theorems.proofs.Landing.{last-holds, label-kind, kept, place, place-next, kept-record, target-same}
+use Rattle.theorems.proofs.OneRecord.{Same, Running, running-same, Place, reset-after, source-same}
+use Rattle.theorems.proofs.Past.{stale-end}
+use Rattle.theorems.proofs.Reduced.{same-kind, same-word}
+use Rattle.theorems.proofs.Rows.{record-length, eight}
+use Rattle.theorems.proofs.Steps.{Stopped, Agree, or-cases, straight-step}
 
 abbrev point : {Value : Type 0} → ℕ → State Value → Point Value
 point i st = record { at = i; state = st }

@@ -16,20 +16,20 @@ use Rattle.mir.specs.Records.{isGen}
 use Rattle.mir.specs.Renaming.{produced}
 use Rattle.mir.proofs.Clash.{clash}
 use Rattle.mir.proofs.Renaming.{and-both}
 use Rattle.passes.specs.declared.alloc.Choice.{Choice}
 use Rattle.passes.specs.declared.alloc.Choice.the-variants.{Found, Free, Empty}
 use Rattle.passes.specs.declared.alloc.Held.{Held}
 use Rattle.passes.specs.declared.alloc.Held.the-variants.{Nothing, At}
 use Rattle.passes.specs.declared.symbol.Loc.{Loc}
 use Rattle.passes.specs.Color.{Coloring, colourAt, choose, chosen, isFound, wanted, afterDest, afterDests, wordsFor, foundAll}
 use Rattle.passes.specs.Machine.{State, write}
-use Rattle.passes.proofs.Assign.{Live, Gets, SimIn, staticIn, numberIn, holds-inside, sim-assign, live-assign, live-later}
-use Rattle.passes.proofs.Choice.{choose-free, choose-found}
-use Rattle.passes.proofs.Create.{Names}
-use Rattle.passes.proofs.Pool.{Before, words, given, colourFor, after-gen, afters-gen, afters-named, words-gen, words-named, produced-gen, produced-named}
-use Rattle.passes.proofs.Pool.{inside, never, c-below, before-rest, before-named}
-use Rattle.passes.proofs.Sim.{sim-next, into-named}
-use Rattle.passes.proofs.Update.{upd-own}
+use Rattle.theorems.proofs.Assign.{Live, Gets, SimIn, staticIn, numberIn, holds-inside, sim-assign, live-assign, live-later}
+use Rattle.theorems.proofs.Choice.{choose-free, choose-found}
+use Rattle.theorems.proofs.Create.{Names}
+use Rattle.theorems.proofs.Pool.{Before, words, given, colourFor, after-gen, afters-gen, afters-named, words-gen, words-named, produced-gen, produced-named}
+use Rattle.theorems.proofs.Pool.{inside, never, c-below, before-rest, before-named}
+use Rattle.theorems.proofs.Sim.{sim-next, into-named}
+use Rattle.theorems.proofs.Update.{upd-own}
 
 -- registers are written in order, each with its value
 abbrev pub writeAll : {Value : Type 0} → List ℕ → List Value → State Value → State Value

@@ -8,15 +8,15 @@ use mathlib.Core.Logic.{_⊎_, inl, inr}
 use mathlib.Core.Path.{_≡_, refl, sym, ap, _∙_}
 use Rattle.mir.specs.declared.rename.Current.{Current}
 use Rattle.mir.proofs.Clash.{clash}
 use Rattle.passes.specs.declared.alloc.Alloc.{Alloc}
 use Rattle.passes.specs.declared.alloc.Held.the-variants.{At}
 use Rattle.passes.specs.declared.symbol.Loc.{Loc}
 use Rattle.passes.specs.Color.{colourAt, holds, clear, give}
 use Rattle.passes.specs.Machine.{State, store}
-use Rattle.passes.proofs.Assign.{Live, Lives, SimIn, numberIn, heldIn}
-use Rattle.passes.proofs.Choice.{loc-same}
-use Rattle.passes.proofs.Locations.{give-life, clear-life, saved-holds}
-use Rattle.passes.proofs.Sim.{SameCell, into-cell, stored-at, stored-else}
+use Rattle.theorems.proofs.Assign.{Live, Lives, SimIn, numberIn, heldIn}
+use Rattle.theorems.proofs.Choice.{loc-same}
+use Rattle.theorems.proofs.Locations.{give-life, clear-life, saved-holds}
+use Rattle.theorems.proofs.Sim.{SameCell, into-cell, stored-at, stored-else}
 
 -- the colours' state once colour word w was saved at l
 abbrev pub savedTo : ℕ → Loc → List Alloc → List Alloc

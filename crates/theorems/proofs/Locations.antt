@@ -12,11 +12,11 @@ use Rattle.mir.specs.declared.shape.Action.the-variants as action
 use Rattle.mir.specs.Records.{isGen, maxRegs}
 use Rattle.mir.proofs.Clash.{clash}
 use Rattle.mir.proofs.Passing.{map-set}
 use Rattle.passes.specs.declared.alloc.Alloc.{Alloc}
 use Rattle.passes.specs.declared.alloc.Held.the-variants.{Nothing, At}
 use Rattle.passes.specs.declared.symbol.Loc.{Loc}
 use Rattle.passes.specs.Color.{alloc, colourAt, sameLoc, holds, without, clear, give, updateAllocs, partner, blank}
-use Rattle.passes.proofs.Create.{set-cases}
+use Rattle.theorems.proofs.Create.{set-cases}
 
 -- ---- clearing a location
 

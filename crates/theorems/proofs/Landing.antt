@@ -18,14 +18,14 @@ use Rattle.mir.specs.Shapes.{label, shapeOf}
 use Rattle.mir.proofs.Clash.{clash}
 use Rattle.mir.proofs.Passing.{ListPasses}
 use Rattle.mir.proofs.Renaming.{and-both}
 use Rattle.passes.specs.declared.alloc.Outcome.the-variants.{Kept}
 use Rattle.passes.specs.Color.{Setup, setup}
 use Rattle.passes.specs.Contract.{isKept, outcomeOf, outcomeAt, outAt, reducedTo, reduced, countTo}
 use Rattle.passes.specs.Machine.{target}
-use Rattle.passes.proofs.Lengths.{out-length, kept-next, reduced-length}
-use Rattle.passes.proofs.Reduced.{same-kind, same-word}
-use Rattle.passes.proofs.Rows.{record-early, record-new}
-use Rattle.passes.proofs.Update.{never-falls}
+use Rattle.theorems.proofs.Lengths.{out-length, kept-next, reduced-length}
+use Rattle.theorems.proofs.Reduced.{same-kind, same-word}
+use Rattle.theorems.proofs.Rows.{record-early, record-new}
+use Rattle.theorems.proofs.Update.{never-falls}
 
 -- ---- the last number
 

@@ -9,11 +9,11 @@ use native.Mathlib.Omega.{arith}
 use borrow.Author.Tests.{eq-eqb, ne-eqb}
 use Rattle.mir.specs.declared.rename.Current.{Current}
 use Rattle.mir.specs.declared.rename.Current.the-variants.{Static}
 use Rattle.passes.specs.declared.alloc.Held.{Held}
 use Rattle.passes.specs.declared.alloc.Held.the-variants.{At}
 use Rattle.passes.specs.declared.symbol.Loc.{Loc}
 use Rattle.passes.specs.Machine.{State, write, store}
-use Rattle.passes.proofs.Update.{upd, upd-at, upd-else, same-or}
+use Rattle.theorems.proofs.Update.{upd, upd-at, upd-else, same-or}
 
 -- ---- cells
 

@@ -11,7 +11,7 @@ use types.Run.{OneOf}
 use Rattle.mir.proofs.shape.Action.{the-type}
 use Rattle.mir.specs.declared.shape.Action.{Action}
 use Rattle.mir.specs.declared.shape.Action.the-variants as action
-use Rattle.passes.proofs.Update.{same-or}
+use Rattle.theorems.proofs.Update.{same-or}
 
 abbrev pub tag : Action → ℕ
 tag a = tagOf the-type a

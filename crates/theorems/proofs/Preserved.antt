@@ -10,21 +10,21 @@ use mathlib.Core.Path.{_≡_, refl, subst, _∙_}
 use native.Mathlib.Decide.{decLt}
 use native.Mathlib.Omega.{arith}
 use Rattle.mir.specs.declared.config.Settings.{Settings}
-use Rattle.mir.specs.Records.{records, recordAt, wordAt, fixedMark}
+use Rattle.mir.specs.Records.{records, recordAt, wordAt}
 use Rattle.mir.specs.Renaming.{regsTo}
 use Rattle.mir.proofs.Passing.{ListPasses, list-passes}
-use Rattle.passes.specs.Color.{setup, colorTo}
-use Rattle.passes.specs.Contract.{isKept, outcomeAt, reduced, countTo}
+use Rattle.passes.specs.Color.{colorTo}
+use Rattle.passes.specs.Contract.{reduced, countTo}
 use Rattle.passes.specs.Machine.{Meaning, State, Point, first, run, step, ended, onward, stepsTo, EndsIn, onWords}
 use Rattle.passes.specs.Machine.{isScalar, AllScalar, isStraight, AllStraight, isCovered, AllCovered, Passing, EndsEqual, RunsEqual, KeepsUp, RunsKeepUp, Preserves}
-use Rattle.passes.proofs.Create.{not-fresh}
-use Rattle.passes.proofs.Ends.{not-both, runs, over-ended, past-ended, onward-ended, onward-runs, first-end, ends-once, straight-runs}
-use Rattle.passes.proofs.Jumps.{Met, Meets, meets-next}
-use Rattle.passes.proofs.Landing.{kept, place-end, kept-inside}
-use Rattle.passes.proofs.OneRecord.{Same, Running, running-same, from-same}
-use Rattle.passes.proofs.Reduced.{same-kind, reduced-holds}
-use Rattle.passes.proofs.Rows.{kind-at, all-kinds, more-kinds}
-use Rattle.passes.proofs.Steps.{ends-equal}
+use Rattle.theorems.proofs.Create.{not-fresh}
+use Rattle.theorems.proofs.Ends.{not-both, runs, over-ended, past-ended, onward-ended, onward-runs, first-end, ends-once, straight-runs}
+use Rattle.theorems.proofs.Jumps.{Met, Meets, meets-next}
+use Rattle.theorems.proofs.Landing.{kept, place-end, kept-inside}
+use Rattle.theorems.proofs.OneRecord.{Same, Running, running-same, from-same}
+use Rattle.theorems.proofs.Reduced.{same-kind, reduced-holds}
+use Rattle.theorems.proofs.Rows.{kind-at, all-kinds, more-kinds}
+use Rattle.theorems.proofs.Steps.{ends-equal}
 
 module _ (s : Settings) (list table : List ℕ) (passes : ListPasses s list table) {Value : Type 0} (m : Meaning Value) (start : State Value) where
   abbrev out : List ℕ

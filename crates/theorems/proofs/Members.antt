@@ -1,7 +1,7 @@
 -- The read set has no repeats, and at most two members for each record and one for each pair of the table.
 -- Members are paid for: a record's own locations by the two of its record, a LoadArgs' pair by its place in the table,
 -- which pays once, since a member does not join again.
-use Prim.Native.Nat.{ℕ, zero, suc, _+_, _-_, _*_, _/_, _≤_, _<_}
+use Prim.Native.Nat.{ℕ, zero, suc, _+_, _*_, _/_, _≤_, _<_}
 use mathlib.Core.Bool.{Bool, true, false, cond, _&&_}
 use mathlib.Core.List.{List, [], _∷_, _++_}
 use mathlib.Core.Logic.{_⊎_, inl, inr, ⊎-elim}
@@ -20,11 +20,11 @@ use Rattle.mir.specs.Questions.{fieldsFit, pairsFit, spaceFits, wordsFit}
 use Rattle.mir.proofs.Passing.{ListPasses}
 use Rattle.mir.proofs.Renaming.{and-both}
 use Rattle.mir.proofs.Shapes.{args-kind}
 use Rattle.passes.specs.declared.symbol.Loc.{Loc}
 use Rattle.passes.specs.Color.{Setup, setup, loc, pairsFrom, reads, isMember, join, joined, colorTo}
-use Rattle.passes.proofs.Actions.{same-action}
-use Rattle.passes.proofs.Update.{same-or}
-use Rattle.passes.proofs.ReadSet.{InLocs, readsAt, members-next, Once, member-append, member-last, joined-keeps, joined-once, joined-more}
+use Rattle.theorems.proofs.Actions.{same-action}
+use Rattle.theorems.proofs.Update.{same-or}
+use Rattle.theorems.proofs.ReadSet.{InLocs, readsAt, members-next, Once, member-append, member-last, joined-keeps, joined-once, joined-more}
 
 -- how many places of the table hold a member
 hits : List Loc → List Loc → ℕ

@@ -23,16 +23,16 @@ use Rattle.mir.specs.Shapes.{call, label, shapeOf, shapeFor, dests, sources}
 use Rattle.mir.proofs.Clash.{clash}
 use Rattle.mir.proofs.Passing.{ListPasses, list-passes}
 use Rattle.mir.proofs.Renaming.{gens-fit-both, regs-length}
 use Rattle.passes.specs.declared.alloc.Alloc.{Alloc}
 use Rattle.passes.specs.declared.alloc.Held.{Held}
 use Rattle.passes.specs.Color.{Setup, setup, Coloring, colourAt, wanted, sourceWord, updateAllocs, locOf, HavePools, afterDests}
 use Rattle.passes.specs.Color.{sourcesAt, destsAt, colorStep, colorTo}
 use Rattle.passes.specs.Create.{endsOf}
 use Rattle.passes.specs.Machine.{Passing}
-use Rattle.passes.proofs.Actions.{same-action}
-use Rattle.passes.proofs.Create.{In, all-in, names-to, not-fresh, gone-end}
-use Rattle.passes.proofs.Pool.{Owner, Owned, Below, words, Before, After, walk}
-use Rattle.passes.proofs.Locations.{update-life, update-length, blank-life}
+use Rattle.theorems.proofs.Actions.{same-action}
+use Rattle.theorems.proofs.Create.{In, all-in, names-to, not-fresh, gone-end}
+use Rattle.theorems.proofs.Pool.{Owner, Owned, Below, words, Before, After, walk}
+use Rattle.theorems.proofs.Locations.{update-life, update-length, blank-life}
 
 -- the words of the destinations, with or without what they are wanted with
 same-words : (ws : List ℕ) (h : Held) → words (map (λ (y : ℕ). (y, h)) ws) ≡ ws

@@ -1,6 +1,6 @@
 -- A coloured record is eight words, and the reduced list is made of whole records.
 -- The destinations and the sources keep their number.
-use Prim.Native.Nat.{ℕ, zero, suc, _+_, _-_, _*_, _≤_, _<_}
+use Prim.Native.Nat.{ℕ, zero, suc, _+_, _*_, _≤_, _<_}
 use mathlib.Core.Bool.{Bool, true, false, cond}
 use mathlib.Core.List.{List, [], _∷_, _++_}
 use mathlib.Core.Path.{_≡_, refl, ap, _∙_}
@@ -11,12 +11,12 @@ use Rattle.mir.specs.Records.{records, recordAt, wordAt}
 use Rattle.mir.specs.Renaming.{regsTo}
 use Rattle.mir.specs.Shapes.{shapeFor, dests, sources}
 use Rattle.mir.proofs.Shapes.{regs-in-record}
 use Rattle.passes.specs.declared.alloc.Outcome.{Outcome}
 use Rattle.passes.specs.declared.alloc.Outcome.the-variants.{Kept, Nop, Load, Move, Save}
 use Rattle.passes.specs.declared.alloc.Held.{Held}
 use Rattle.passes.specs.Color.{Setup, Coloring, wanted, sourceWord, afterDest, wordsFor, sourcesAt, destsAt, colored, colorTo}
 use Rattle.passes.specs.Contract.{isKept, outcomeAt, outAt, reducedTo, outcomeNumber, countTo}
-use Rattle.passes.proofs.Rows.{record-length}
+use Rattle.theorems.proofs.Rows.{record-length}
 
 words-length : (n i : ℕ) (E : List ℕ) (ds : List (ℕ × Held)) (st : Coloring) → length (wordsFor n i E ds st) ≡ length ds
 unfolding wordsFor

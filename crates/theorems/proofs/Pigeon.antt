@@ -8,7 +8,7 @@ use native.Mathlib.Decide.{decLt}
 use native.Mathlib.Omega.{arith}
 use lib.Dec.{eqb}
 use borrow.Author.Tests.{eq-eqb, ne-eqb}
-use Rattle.passes.proofs.Update.{same-or}
+use Rattle.theorems.proofs.Update.{same-or}
 
 -- different numbers up to n go to different numbers
 Apart : ℕ → (ℕ → ℕ) → Type 0

@@ -19,26 +19,26 @@ use Rattle.mir.specs.Questions.{wordFits, wordsFit, pairsFit, fieldsFit, genFit
 use Rattle.mir.specs.Renaming.{regsTo}
 use Rattle.mir.specs.Records.{records, recordAt, wordAt, isGen, maxRegs, fixedMark}
 use Rattle.mir.specs.Shapes.{reg, loadArgs, shapeOf, shapeFor, dests, sources, registers}
-use Rattle.mir.proofs.Folds.{all-at, all-each, all-append, all-words, below-suc}
+use Rattle.mir.proofs.Folds.{all-each, all-append, all-words, below-suc}
 use Rattle.mir.proofs.Passing.{ListPasses, list-passes, word-fits}
 use Rattle.mir.proofs.Renaming.{and-both}
 use Rattle.mir.proofs.Shapes.{regs-in-record, regs-after-kind, register-limit, args-bare}
 use Rattle.passes.specs.declared.alloc.Alloc.{Alloc}
 use Rattle.passes.specs.declared.alloc.Choice.{Choice}
 use Rattle.passes.specs.declared.alloc.Choice.the-variants.{Found, Free, Empty}
 use Rattle.passes.specs.declared.alloc.Outcome.the-variants.{Kept}
 use Rattle.passes.specs.declared.alloc.Held.{Held}
 use Rattle.passes.specs.Color.{Setup, setup, Coloring, choose, chosen, afterDest, wordFor, wordsFor, sourceWord, sourcesAt, destsAt}
 use Rattle.passes.specs.Color.{colored, colorTo}
 use Rattle.passes.specs.Contract.{outAt, outcomeAt, isKept, reducedTo, reduced, countTo}
 use Rattle.passes.specs.Create.{endsOf}
 use Rattle.passes.specs.Machine.{Passing}
-use Rattle.passes.proofs.Choice.{choose-free, choose-found}
-use Rattle.passes.proofs.Create.{In, all-in}
-use Rattle.passes.proofs.Lengths.{dest-words-length, source-words-length, out-length, kept-next, reduced-length}
-use Rattle.passes.proofs.Pool.{words, colour-fits}
-use Rattle.passes.proofs.NeverEmpty.{choices-of, wanted-words, source-below}
-use Rattle.passes.proofs.Rows.{record-length, record-early, record-new}
+use Rattle.theorems.proofs.Choice.{choose-free, choose-found}
+use Rattle.theorems.proofs.Create.{In, all-in}
+use Rattle.theorems.proofs.Lengths.{dest-words-length, source-words-length, out-length, kept-next, reduced-length}
+use Rattle.theorems.proofs.Pool.{words, colour-fits}
+use Rattle.theorems.proofs.NeverEmpty.{choices-of, wanted-words, source-below}
+use Rattle.theorems.proofs.Rows.{record-length, record-early, record-new}
 
 -- ---- a list with its middle replaced: a words from place r on
 

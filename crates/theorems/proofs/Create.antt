@@ -20,8 +20,8 @@ use Rattle.mir.specs.Renaming.{fresh, one, produce, gens, produced, renamed, st
 use Rattle.mir.specs.Shapes.{call, label, dests, sources}
 use Rattle.mir.proofs.Clash.{clash}
 use Rattle.mir.proofs.Renaming.{and-both}
 use Rattle.passes.specs.Create.{endedAt, consume, consumed, endsTo, endsOf}
-use Rattle.passes.proofs.Update.{same-or, never-falls}
+use Rattle.theorems.proofs.Update.{same-or, never-falls}
 
 -- ---- lists
 

@@ -11,12 +11,12 @@ use lib.Dec.{eqb}
 use lib.ListN.{length, getD, length-append}
 use Rattle.mir.specs.Records.{records, recordAt, wordAt, isGen}
 use Rattle.mir.specs.Shapes.{shapeFor}
 use Rattle.passes.specs.declared.alloc.Held.{Held}
 use Rattle.passes.specs.declared.symbol.Loc.{Loc}
 use Rattle.passes.specs.Color.{Setup, Coloring, locOf, sameLoc, pairsFrom, reads, isMember, join, joined, assign, choose, chosen}
 use Rattle.passes.specs.Color.{afterDest, afterDests, destsAt, foundAt, colorStep, colorTo}
 use Rattle.passes.specs.Contract.{readSet}
-use Rattle.passes.proofs.Choice.{same-loc, loc-same}
+use Rattle.theorems.proofs.Choice.{same-loc, loc-same}
 use Rattle.mir.proofs.Clash.{clash}
 
 -- l is one of the locations
