@@ -1,9 +1,9 @@
 -- The choices by masks are the definitions' choices.
 -- A mask has the bits of the colours that are looked for, and none from the count on; a word of location is met where it is held.
 use Prim.Native.Nat.{ℕ, _-_, _^_, _<_}
-use mathlib.Core.Bool.{Bool, true, false, _&&_, not}
+use mathlib.Core.Bool.{_&&_, not, Bool·not-not}
 use mathlib.Core.List.{List}
-use mathlib.Core.Path.{_≡_, refl, sym, ap, _∙_}
+use mathlib.Core.Path.{_≡_, sym, ap, _∙_}
 use native.Mathlib.Omega.{arith}
 use lib.Bits.{bitAnd}
 use lib.Dec.{eqb}
@@ -19,17 +19,13 @@ use Rattle.colours.proofs.Bits.{has-but}
 use Rattle.colours.proofs.Colours.{holds-word, stands-at}
 use Rattle.colours.proofs.Search.{first-alike, first-same}
 
-not-not : (b : Bool) → not (not b) ≡ b
-not-not true = refl
-not-not false = refl
-
 module _ {n i : ℕ} {m : Masks} {allocs : List Alloc} (h : Masked n i m allocs) where
   pub free-first : firstBelow (hasBit (m .free)) maxRegs ≡ firstBelow (isFree i allocs) n
   free-first = first-same (hasBit (m .free)) (isFree i allocs) n maxRegs (h .few) (h .free) (h .free-within)
 
   module _ (free : m .free < 2 ^ maxRegs) (held : m .held < 2 ^ maxRegs) where
     bare-bit : (c : ℕ) → hasBit (bitAnd (m .free) ((2 ^ maxRegs - 1) - m .held)) c ≡ (hasBit (m .free) c && isBare allocs c)
-    bare-bit c = has-but maxRegs (m .free) (m .held) c free held ∙ ap (λ b. hasBit (m .free) c && b) (ap not (h .held c) ∙ not-not (isBare allocs c))
+    bare-bit c = has-but maxRegs (m .free) (m .held) c free held ∙ ap (λ b. hasBit (m .free) c && b) (ap not (h .held c) ∙ Bool·not-not (isBare allocs c))
 
     pub bare-first : firstBelow (hasBit (bitAnd (m .free) ((2 ^ maxRegs - 1) - m .held))) maxRegs ≡ firstBelow (λ c. isFree i allocs c && isBare allocs c) n
     bare-first =

@@ -1,7 +1,7 @@
 -- Colours become free at a record: source by source, and then the masks tell of the colours that are free there.
 -- A colour that was not free before and is free now is one of the sources'; the others' lives say the same at both records.
 use Prim.Native.Nat.{ℕ, _<_, _≤_}
-use mathlib.Core.Bool.{Bool, true, false, cond, _&&_, _||_, or-false, and-false}
+use mathlib.Core.Bool.{Bool, true, false, cond, _&&_, _||_, or-true, or-false, or-assoc, and-false}
 use mathlib.Core.List.{List, [], _∷_, _++_}
 use mathlib.Core.Logic.{inl, inr}
 use mathlib.Core.Path.{_≡_, refl, sym, ap, _∙_}
@@ -39,12 +39,8 @@ module _ (m : Masks) (w i : ℕ) (lives : List ℕ) where
       → Expired m (w ∷ []) i lives (record { free = free; held = m .held })
   expired-now g h bits = record { held = refl; free = λ c. bits c ∙ rw (one-in c w, g) (set c (eqb c w) refl) }
     where
-      or-yes : (b : Bool) → true ≡ (b || true)
-      or-yes true = refl
-      or-yes false = refl
-
       set : (c : ℕ) (b : Bool) → eqb c w ≡ b → cond b true (hasBit (m .free) c) ≡ (hasBit (m .free) c || (b && leb (getD lives c 0) i))
-      set c true e = rw (eqb-true c w e, le-leb (getD lives w 0) i h) (or-yes (hasBit (m .free) w))
+      set c true e = rw (eqb-true c w e, le-leb (getD lives w 0) i h) (sym (or-true (hasBit (m .free) w)))
       set c false e = sym (or-false (hasBit (m .free) c))
 
 -- ---- source by source
@@ -56,11 +52,9 @@ expired-none m i lives = record { held = refl; free = λ c. sym (or-false (hasBi
 in-more : (c w : ℕ) (ws : List ℕ) → isIn c (ws ++ w ∷ []) ≡ (isIn c ws || isIn c (w ∷ []))
 unfolding isIn
 in-more c w [] = refl
-in-more c w (v ∷ ws) = go (isGen v && eqb c v) (in-more c w ws)
-  where
-    go : (b : Bool) → isIn c (ws ++ w ∷ []) ≡ (isIn c ws || isIn c (w ∷ [])) → (b || isIn c (ws ++ w ∷ [])) ≡ ((b || isIn c ws) || isIn c (w ∷ []))
-    go true e = refl
-    go false e = e
+in-more c w (v ∷ ws) =
+    let b = isGen v && eqb c v in
+    ap (λ x. b || x) (in-more c w ws) ∙ sym (or-assoc b (isIn c ws) (isIn c (w ∷ [])))
 
 pub expired-more : {m r : Masks} {ws : List ℕ} {i : ℕ} {lives : List ℕ} (w : ℕ) → Expired m ws i lives r → {q : Masks} → Expired r (w ∷ []) i lives q → Expired m (ws ++ w ∷ []) i lives q
 expired-more {m} {r} {ws} {i} {lives} w h k =
@@ -84,11 +78,7 @@ is-in : (c : ℕ) (ws : List ℕ) → c < 256 → In c ws → isIn c ws ≡ true
 unfolding isIn
 is-in c [] l m = absurd m
 is-in c (v ∷ ws) l (inl e) = rw (← e, lt-ltb c 256 l, eq-eqb c c refl)
-is-in c (v ∷ ws) l (inr m) = rw (is-in c ws l m) (yes (isGen v && eqb c v))
-  where
-    yes : (b : Bool) → (b || true) ≡ true
-    yes true = refl
-    yes false = refl
+is-in c (v ∷ ws) l (inr m) = rw (is-in c ws l m) (or-true (isGen v && eqb c v))
 
 pub expired-stands : {n j : ℕ} {m : Masks} {lives locs : List ℕ} {allocs : List Alloc} → Stands n j m lives locs allocs → {ws : List ℕ} {i : ℕ} {r : Masks}
     → Expired m ws i lives r → j ≤ i

@@ -1,6 +1,6 @@
 -- Inner: what the last walk and all walks together do to the lent slices.
 use Prim.Native.Nat.{ℕ, _+_, _*_, _/_, _%_, _<_, _≤_}
-use mathlib.Core.Bool.{cond}
+use mathlib.Core.Bool.{Bool, cond}
 use mathlib.Core.List.{List, [], _∷_, _++_}
 use mathlib.Core.Path.{_≡_}
 use lib.ListN.{length, getD, set, take, drop}
@@ -59,6 +59,10 @@ tallied Save t = record { records = t .records; nops = t .nops; loads = t .loads
 -- no count has come to n yet
 abbrev pub Short : Tally → ℕ → Type 0
 Short t n = (t .records < n) × (t .nops < n) × (t .loads < n) × (t .moves < n) × (t .saves < n)
+
+-- the output, with a record put at a place if it is kept
+abbrev pub putIf : Bool → ℕ → List ℕ → List ℕ → List ℕ
+putIf kept at rec out = cond kept (take at out ++ over rec (drop at out)) out
 
 -- what becomes of a record
 abbrev pub outcomeIn : ℕ → List Loc → List Current → ℕ → List ℕ → List ℕ → List ℕ → Outcome

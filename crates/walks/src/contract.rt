@@ -25,7 +25,7 @@ use passes::symbol::Loc;
 use sets::contains;
 ghost use Prim.Native.Nat.{ℕ, _+_, _*_, _<_, _≤_, _%_};
 ghost use mathlib.Core.Bool.{true, cond, _&&_, _||_, not};
-ghost use mathlib.Core.List.{List, _++_, map};
+ghost use mathlib.Core.List.{List, map};
 ghost use mathlib.Core.Path.{_≡_};
 ghost use lib.ListN.{length, getD, set, take, drop};
 ghost use lib.Seq.{sets};
@@ -33,7 +33,7 @@ ghost use Rattle.mir.specs.Inner.{currentsIn};
 ghost use Rattle.mir.specs.Answers.{over};
 ghost use Rattle.lives.specs.Lives.{KnownIn};
 ghost use Rattle.sets.specs.Sets.{Indexed};
-ghost use Rattle.walks.specs.Walks.{Colored, Contracted, Short, destWords, rewritten, outcomeIn, unmarked, tallied};
+ghost use Rattle.walks.specs.Walks.{Colored, Contracted, Short, destWords, rewritten, outcomeIn, unmarked, tallied, putIf};
 ghost use Rattle.mir.specs.Folds.{all};
 ghost use Rattle.mir.specs.Questions.{genFits, gensFit, partnerFits};
 ghost use Rattle.mir.specs.Records.{isGen, maxRegs};
@@ -244,7 +244,7 @@ fn push(rec: [u32; 8], out: &mut [u32])
 // A record that is kept goes into the output's part from the next record on.
 fn keep(outcome: Outcome, rec: [u32; 8], at: usize, out: &mut [u32])
     requires { ⌜ at + 8 ≤ length (now out) ⌝ }
-    ensures { λ _. ⌜ now (out .exit) ≡ cond (isKept outcome) (take at (now (out .entry)) ++ over rec (drop at (now (out .entry)))) (now (out .entry)) ⌝ }
+    ensures { λ _. ⌜ now (out .exit) ≡ putIf (isKept outcome) at rec (now (out .entry)) ⌝ }
 {
     match outcome {
         Outcome::Kept => {
@@ -335,7 +335,7 @@ fn contract_record(
     requires { ⌜ tally .records * 8 + 8 ≤ length (now out) ⌝ }
     ensures tally { λ r. ⌜ r ≡ tallied (outcomeIn fixed (pairsFrom (now (locs .entry)) 0 members) (currentsIn (now (regs .entry))) next (now (colours .entry)) (now (ends .entry)) rec) tally ⌝ }
     ensures ends { λ _. ⌜ now (ends .exit) ≡ unmarked (dests rec) next (now (ends .entry)) ⌝ }
-    ensures out { λ _. ⌜ now (out .exit) ≡ cond (isKept (outcomeIn fixed (pairsFrom (now (locs .entry)) 0 members) (currentsIn (now (regs .entry))) next (now (colours .entry)) (now (ends .entry)) rec)) (take (tally .records * 8) (now (out .entry)) ++ over (rewritten (currentsIn (now (regs .entry))) next (now (colours .entry)) rec) (drop (tally .records * 8) (now (out .entry)))) (now (out .entry)) ⌝ }
+    ensures out { λ _. ⌜ now (out .exit) ≡ putIf (isKept (outcomeIn fixed (pairsFrom (now (locs .entry)) 0 members) (currentsIn (now (regs .entry))) next (now (colours .entry)) (now (ends .entry)) rec)) (tally .records * 8) (rewritten (currentsIn (now (regs .entry))) next (now (colours .entry)) rec) (now (out .entry)) ⌝ }
 {
     let found = was_found(rec, next, ends);
     unmark(rec, next, ends);

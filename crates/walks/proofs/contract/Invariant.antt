@@ -8,7 +8,7 @@ use native.Mathlib.Nat.{add-zero}
 use native.Mathlib.Numerals.{add-one}
 use native.Mathlib.Omega.{arith}
 use lib.Dec.{eqb}
-use lib.ListN.{length, getD, take, drop, length-append}
+use lib.ListN.{length, getD, drop, length-append}
 use lib.Seq.{take-append-seam, drop-append-seam}
 use Rattle.mir.specs.declared.config.Settings.{Settings}
 use Rattle.mir.specs.Inner.{currentsIn}
@@ -28,7 +28,7 @@ use Rattle.mir.specs.Answers.{over}
 use Rattle.passes.specs.Contract.{isKept, outcomeNumber, readSet, outAt, outcomeAt, reducedTo, reduced, countTo, countOf, membersOf, wordsOf}
 use Rattle.lives.specs.Lives.{KnownIn}
 use Rattle.coloring.specs.Coloring.{wasFound, foundsTo, marked}
-use Rattle.walks.specs.Walks.{Colored, Contracted, Short, rewritten, outcomeIn, unmarked, tallied}
+use Rattle.walks.specs.Walks.{Colored, Contracted, Short, rewritten, outcomeIn, unmarked, tallied, putIf}
 use Rattle.walks.proofs.contract.Colours.{Grows, grows-get, founds-grow, rewritten-out}
 use Rattle.coloring.proofs.Dests.{marked-length}
 use Rattle.mir.proofs.Over.{over-length, over-after}
@@ -83,7 +83,7 @@ tally-next s list table i = go (outcomeAt (fixedMark s) (setup s list table) i)
 -- ---- a record that is kept goes after those that were
 
 put-after : (R W O0 : List ℕ) (at : ℕ) (b : Bool) → at ≡ length R
-    → cond b (take at (over R O0) ++ over W (drop at (over R O0))) (over R O0) ≡ over (R ++ cond b W []) O0
+    → putIf b at W (over R O0) ≡ over (R ++ cond b W []) O0
 put-after R W O0 at false e = ap (λ xs. over xs O0) (sym (append-nil R))
 put-after R W O0 at true e =
     rw (e, take-append-seam R (drop (length R) O0), drop-append-seam R (drop (length R) O0)) (over-after R W O0)
@@ -248,7 +248,7 @@ module _ (g : Call) where
         rw (add-one i, inv .ends-are, w .statics-are, e)
         (unmark-record (endsOf list) E0 (foundsTo u (records list)) (small s list table passes C E0 wide) (dests (recordAt list i)) (staticsTo list i) (room s list table passes C E0 wide i l))
 
-    out-next : cond (isKept (outcomeAt (fixedMark s) u i)) (take (t .records * 8) out ++ over (outAt u i) (drop (t .records * 8) out)) out
+    out-next : putIf (isKept (outcomeAt (fixedMark s) u i)) (t .records * 8) (outAt u i) out
         ≡ over (reducedTo (fixedMark s) u (i + 1)) O0
     unfolding reducedTo
     out-next =
@@ -258,7 +258,7 @@ module _ (g : Call) where
     pub contracting-next : (fixed : ℕ) → fixed ≡ fixedMark s → {ends' out' : List ℕ} {t' : Tally}
         → t' ≡ tallied (outcomeIn fixed (pairsFrom S 0 members) (currentsIn regs) statics C ends rec) t
         → ends' ≡ unmarked (dests rec) statics ends
-        → out' ≡ cond (isKept (outcomeIn fixed (pairsFrom S 0 members) (currentsIn regs) statics C ends rec)) (take (t .records * 8) out ++ over (rewritten (currentsIn regs) statics C rec) (drop (t .records * 8) out)) out
+        → out' ≡ putIf (isKept (outcomeIn fixed (pairsFrom S 0 members) (currentsIn regs) statics C ends rec)) (t .records * 8) (rewritten (currentsIn regs) statics C rec) out
         → Contracting s list table E0 O0 (i + 1) ends' out' t'
     contracting-next fixed f p q r =
         let k = outcome-is fixed f in

@@ -1,19 +1,16 @@
 -- `walks::contract::contract_record` meets its contract: the calls' equations, one put into the other.
 -- The record in colours has the kind and the location that it had.
 use Prim.Native.Nat.{ℕ, _*_}
-use mathlib.Core.Bool.{cond}
-use mathlib.Core.List.{List, _++_}
+use mathlib.Core.List.{List}
 use mathlib.Core.Path.{_≡_, ap, _∙_}
-use lib.ListN.{take, drop}
 use Rattle.mir.specs.Inner.{currentsIn}
 use Rattle.mir.specs.Shapes.{dests}
 use Rattle.passes.specs.declared.alloc.Outcome.{Outcome}
 use Rattle.passes.specs.declared.symbol.Loc.{Loc}
 use Rattle.passes.specs.Color.{pairsFrom}
 use Rattle.passes.specs.Contract.{isKept, outcomeOf}
-use Rattle.mir.specs.Answers.{over}
 use Rattle.coloring.specs.Coloring.{wasFound}
-use Rattle.walks.specs.Walks.{outcomeIn, tallied}
+use Rattle.walks.specs.Walks.{outcomeIn, tallied, putIf}
 use Rattle.walks.proofs.contract.Partner.{written-partner}
 use borrow.Author.Needs.{needs}
 use Rattle.walks.proofs.contract.contract_record.Statement.{statement}
@@ -73,11 +70,9 @@ outcome-is o =
     ∙ (ap (λ f. outcome-by f (w .rewrite .result)) (w .before .before .before .before .before .was-found .ensures)
     ∙ ap (outcome-by (wasFound (dests (a .args .rec)) (a .args .next) (a .args .ends .now))) (w .rewrite .ensures))
 
--- the output, the record being put after the first ones
-abbrev put : tie.Start → List ℕ → List ℕ
-put a w =
-    let at = a .args .tally .records * 8 in
-    take at (a .args .out .now) ++ over w (drop at (a .args .out .now))
+-- the output, the record being put after the first ones if it is kept
+abbrev put : tie.Start → Outcome → List ℕ → List ℕ
+put a outcome w = putIf (isKept outcome) (a .args .tally .records * 8) w (a .args .out .now)
 
 returns : tie.Need-returns
 returns c =
@@ -88,8 +83,7 @@ returns c =
       (
         w .before .before .before .unmark .ensures,
         c .before .before .before .keep .ensures
-            ∙ (ap (λ f. cond (isKept f) (put a (w .rewrite .result)) (a .args .out .now)) (outcome-is o)
-            ∙ ap (λ v. cond (isKept (outcome a)) (put a v) (a .args .out .now)) (w .rewrite .ensures)),
+            ∙ (ap (λ f. put a f (w .rewrite .result)) (outcome-is o) ∙ ap (put a (outcome a)) (w .rewrite .ensures)),
       ),
     )
 
