@@ -1,5 +1,7 @@
 // The allocator: `optimize` puts the questions to a list and shortens one that passes (the Rust's allocator.rs, whose
 // passes are in crate walks).
+#![tactic(auto)]
+
 ghost use Rattle.std.specs.Prelude.{◌≡◌};
 ghost use Rattle.walks.specs.Lent.{lent};
 ghost use Rattle.allocator.specs.Optimize.{Optimized, room_for};

@@ -1,5 +1,7 @@
 // Reduces stored files one after the other, and prints what is left of each. Standard input is the number of cases and then
 // each file, its length in bytes before it; docs/FORMAT.md has the form, and importer/ makes it from the original.
+#![tactic(auto)]
+
 use console::{FILE, length_to, print_number, print_text, show_input, word};
 
 fn show_next() {

@@ -1,4 +1,6 @@
 // The third walk (document 01, section 3): each static's colour, and the read set.
+#![tactic(auto)]
+
 ghost use Rattle.std.specs.Prelude.{ℕ, ◌+◌, ◌*◌, ◌<◌, ◌≤◌, true, cond, ◌&&◌, List, [], ◌∷◌, map, leb, ◌≡◌, length, get_or, take, drop};
 ghost use Rattle.mir.specs.Inner.{currents_in};
 ghost use Rattle.mir.specs.Answers.{over};

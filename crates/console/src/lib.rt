@@ -1,4 +1,6 @@
 // Standard input and output of the programs: words that are read, and what reducing a file gives, as text.
+#![tactic(auto)]
+
 ghost use Rattle.std.specs.Prelude.{◌*◌, ◌+◌, ◌≤◌, length};
 
 use allocator::Answer;

@@ -1,4 +1,6 @@
 // The file (document 01, section 8): its words and sections, and what reducing it gives.
+#![tactic(auto)]
+
 pub mod layout;
 pub mod reduce;
 

@@ -1,4 +1,6 @@
 // The second walk (document 01, section 2): each static's end.
+#![tactic(auto)]
+
 ghost use Rattle.std.specs.Prelude.{◌+◌, ◌*◌, ◌<◌, ◌≤◌, true, cond, ◌≡◌, length, set, take, drop};
 ghost use Rattle.mir.specs.Inner.{currents_in};
 ghost use Rattle.mir.specs.Answers.{over};

@@ -1,4 +1,6 @@
 // Records, their shapes and registers, and the questions put to each record before a list is reduced or surveyed (the Rust's mir.rs).
+#![tactic(auto)]
+
 pub mod config;
 pub mod questions;
 pub mod record;

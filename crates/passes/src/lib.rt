@@ -1,4 +1,6 @@
 // What reducing a list means: the colours' state, and in specs/ the three passes and the plain machine, held by cases in proofs/. There
 // is no operation here.
+#![tactic(auto)]
+
 pub mod alloc;
 pub mod symbol;

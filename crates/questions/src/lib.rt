@@ -1,5 +1,7 @@
 // The questions before reducing (document 01, section 7), all in their order: those of mir, and 16, which is asked of the list as a
 // whole.
+#![tactic(auto)]
+
 pub mod branches;
 
 ghost use Rattle.std.specs.Prelude.{◌≡◌};

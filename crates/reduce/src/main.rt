@@ -1,4 +1,6 @@
 // Reduces the file on standard input, and prints what is left of it (document 01, section 8).
+#![tactic(auto)]
+
 use console::{FILE, show_input};
 
 fn main() {

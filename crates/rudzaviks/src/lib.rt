@@ -1,4 +1,6 @@
 // The functions exported to C: each takes word slices and numbers, and answers in one 64-bit word.
+#![tactic(auto)]
+
 ghost use Rattle.std.specs.Prelude.{◌/◌, ◌%◌, ◌^◌, ◌≤◌, [], ◌∷◌, ◌≡◌, length, get_or};
 ghost use Rattle.walks.specs.Lent.{lent, values_in};
 ghost use Rattle.rudzaviks.specs.Exports.{RudzaviksSurvey, RudzaviksOptimize, RudzaviksReduce, refusal_word, report_word, records_word};

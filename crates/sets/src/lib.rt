@@ -1,5 +1,7 @@
 // The read set (document 01, section 3; the Rust's `locs`): the locations that records of the output read, two words each,
 // in joining order and without repeats.
+#![tactic(auto)]
+
 ghost use Rattle.std.specs.Prelude.{◌+◌, ◌*◌, ◌/◌, ◌<◌, ◌≤◌, true, ◌≡◌, length, get_or};
 ghost use Rattle.mir.specs.Answers.{over};
 ghost use Rattle.passes.specs.Contract.{words_of};

@@ -1,4 +1,6 @@
 // What stands beside the passes (the Rust's mir.rs): a survey of the registers that a list uses and of where it has a label.
+#![tactic(auto)]
+
 ghost use Rattle.std.specs.Prelude.{◌≤◌, ◌<◌, true, cond, [], ◌∷◌, ◌≡◌, length};
 ghost use Rattle.mir.specs.Answers.{unless};
 ghost use Rattle.survey.specs.Beside.{mask_of, get_dst, every, place_in, parts, survey_of, survey_report};

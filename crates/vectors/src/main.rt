@@ -1,5 +1,7 @@
 // Replays stored answers of the original Rust against the exported functions. docs/FORMAT.md has the form of its input, which
 // importer/ makes; this program needs no Rust.
+#![tactic(auto)]
+
 ghost use Rattle.std.specs.Prelude.{◌≤◌, ◌≡◌, leb, length};
 
 use console::{length_to, word};

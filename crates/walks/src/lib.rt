@@ -1,4 +1,6 @@
 // The walks over a list that passes (the Rust's `create`, `color` and `contract`), and the working space that they take.
+#![tactic(auto)]
+
 ghost use Rattle.std.specs.Prelude.{◌≤◌, [], ◌∷◌, ◌≡◌, length};
 ghost use Rattle.mir.specs.Shapes.{any};
 ghost use Rattle.passes.specs.Machine.{Passing};
