@@ -1,0 +1,32 @@
+-- `mir::questions::check_shape` meets its contract: the questions are put in their order, and the first no gives its number.
+use borrow.Author.Tests.{le-leb, lt-leb}
+use Rattle.mir.specs.Questions.{shape_no, known_kind}
+use Rattle.mir.proofs.Folds.{answered_no, answered_yes}
+use Rattle.mir.proofs.questions.check_shape.Goals as goal
+
+pub returns-then-rec-gt20 : goal.returns-then-rec-gt20
+unfolding shape_no known_kind
+returns-then-rec-gt20 c = simp (lt-leb _ _ c.if-rec-gt20.true)
+
+pub returns-then-not-fields_fit : goal.returns-then-not-fields_fit
+unfolding shape_no known_kind
+returns-then-not-fields_fit c =
+    simp (le-leb _ _ c.if-rec-gt20.false, answered_no c.fields_fit.ensures c.if-not-fields_fit.true-raw)
+
+pub returns-then-not-gens_fit : goal.returns-then-not-gens_fit
+unfolding shape_no known_kind
+returns-then-not-gens_fit c =
+    simp (
+      le-leb _ _ c.if-rec-gt20.false,
+      answered_yes c.fields_fit.ensures c.if-not-fields_fit.false-raw,
+      answered_no c.gens_fit.ensures c.if-not-gens_fit.true-raw,
+    )
+
+pub returns : goal.returns
+unfolding shape_no known_kind
+returns c =
+    simp (
+      le-leb _ _ c.if-rec-gt20.false,
+      answered_yes c.fields_fit.ensures c.if-not-fields_fit.false-raw,
+      answered_yes c.gens_fit.ensures c.if-not-gens_fit.false-raw,
+    )
