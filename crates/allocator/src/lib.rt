@@ -11,7 +11,7 @@ use mir::questions::Verdict;
 use questions::check;
 use walks::{Counts, reduce};
 
-#[derive(Drop)]
+#[derive(Clone, Copy)]
 pub enum Answer {
     Reduced(Counts),
     // The number of the question, and the index of the record.

@@ -359,7 +359,7 @@ fn read_record(
 }
 
 // How many statics there are, and how many members the read set has.
-#[derive(Drop)]
+#[derive(Clone, Copy)]
 pub struct Sizes {
     pub statics: usize,
     pub members: usize,

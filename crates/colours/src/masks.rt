@@ -4,7 +4,7 @@ ghost use Rattle.mir.specs.Records.{max_regs};
 ghost use Rattle.passes.specs.Color.{first_below};
 ghost use Rattle.colours.specs.Masks.{has_bit, placed};
 
-#[derive(Drop)]
+#[derive(Clone, Copy)]
 pub struct Masks {
     // The colours that are free.
     pub free: u64,
@@ -13,7 +13,7 @@ pub struct Masks {
 }
 
 // The first colour that was looked for, if there is one.
-#[derive(Drop)]
+#[derive(Clone, Copy)]
 pub enum Position {
     At(u32),
     Nowhere,

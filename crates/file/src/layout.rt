@@ -55,7 +55,7 @@ pub fn write_words(first: u32, words: &[u32], out: &mut [u8])
 }
 
 // Where the sections are: the counts of pairs and of records; or a count over 512, or a file of another length.
-#[derive(Drop)]
+#[derive(Clone, Copy)]
 pub enum Layout {
     Counts(usize, usize),
     Bad,

@@ -5,7 +5,7 @@ ghost use Rattle.mir.specs.Records.{fixed_mark};
 // The most registers that a list may have.
 pub const MAX_REGS: usize = 64;
 
-#[derive(Drop)]
+#[derive(Clone, Copy)]
 pub struct Settings {
     pub count_regs: u32,
     pub args: u32,

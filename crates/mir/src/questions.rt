@@ -13,7 +13,7 @@ use crate::rename::{Current, UNSET, count_statics, current_of, rename};
 use crate::shape::{BRANCH_IF, LOAD_ARGS, shape_of};
 
 // Whether a list passes; a refusal has the question's number and the index of the first bad record.
-#[derive(Drop)]
+#[derive(Clone, Copy)]
 pub enum Verdict {
     Passed,
     Refused(u32, u32),

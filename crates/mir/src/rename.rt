@@ -10,7 +10,7 @@ use crate::config::MAX_REGS;
 use crate::shape::{CALL, Dests, LABEL, dests_of};
 
 // A register's current static: the Rust's `Option<usize>`.
-#[derive(Drop)]
+#[derive(Clone, Copy)]
 pub enum Current {
     Static(u32),
     Unset,

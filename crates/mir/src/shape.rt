@@ -6,7 +6,7 @@ ghost use Rattle.mir.specs.Shapes.{shape_of, dests};
 use Action::{Clear, Load, LoadArgs, LoadComplex, Mov, Other, Save, SaveComplex};
 
 // What the passes do with a record besides reading its sources and writing its destinations.
-#[derive(Drop)]
+#[derive(Clone, Copy)]
 pub enum Action {
     Mov,
     Load,
@@ -19,7 +19,7 @@ pub enum Action {
     Other,
 }
 
-#[derive(Drop)]
+#[derive(Clone, Copy)]
 pub struct Shape {
     pub action: Action,
     // The place of the first register word; the destinations stand there, and the sources after them.
@@ -104,7 +104,7 @@ pub fn shape_of(kind: u32) -> Shape
 }
 
 // The destinations of a record: x before y.
-#[derive(Drop)]
+#[derive(Clone, Copy)]
 pub enum Dests {
     Nothing,
     One(u32),

@@ -2,14 +2,14 @@
 use crate::symbol::Loc;
 
 // At most one location: the Rust's `Option<Loc>`.
-#[derive(Drop)]
+#[derive(Clone, Copy)]
 pub enum Held {
     Nothing,
     At(Loc),
 }
 
 // A colour, as the definitions have it; the walks keep it in plain words (`Slot`).
-#[derive(Drop)]
+#[derive(Clone, Copy)]
 pub struct Alloc {
     // The colour is needed up to this instruction.
     pub life: u32,
@@ -17,7 +17,7 @@ pub struct Alloc {
 }
 
 // What a choice comes to. `Empty` is the answer for an empty pool; on a list that passes it is never given.
-#[derive(Drop)]
+#[derive(Clone, Copy)]
 pub enum Choice {
     Found(u32),
     Free(u32),
@@ -25,7 +25,7 @@ pub enum Choice {
 }
 
 // What becomes of a record: it is kept, or dropped as one of the four kinds that are counted.
-#[derive(Drop)]
+#[derive(Clone, Copy)]
 pub enum Outcome {
     Kept,
     Nop,

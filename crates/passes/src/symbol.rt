@@ -1,5 +1,5 @@
 // A location (document 01, section 1): the space and the index. The Rust's `Loc` has a variant for each space.
-#[derive(Drop)]
+#[derive(Clone, Copy)]
 pub struct Loc {
     pub space: u32,
     pub index: u32,

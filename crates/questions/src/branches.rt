@@ -16,7 +16,7 @@ use mir::shape::{BRANCH, BRANCH_IF, LABEL};
 const PLACES: usize = 4_096;
 
 // Where a record goes: to the Label with a number, if it is a branch.
-#[derive(Drop)]
+#[derive(Clone, Copy)]
 pub enum Target {
     To(u32),
     Nowhere,

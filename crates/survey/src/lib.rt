@@ -14,14 +14,14 @@ use mir::record::record_at;
 use mir::shape::{BRANCH_IF, Dests, LABEL, dests_of};
 
 // Where a list has a label: the index of the last Label with its number, or nowhere.
-#[derive(Drop)]
+#[derive(Clone, Copy)]
 pub enum Place {
     At(u32),
     Absent,
 }
 
 // The answer of `survey`: the mask of used registers, how many it names, and the label's place; or a refusal's number and index.
-#[derive(Drop)]
+#[derive(Clone, Copy)]
 pub enum Surveyed {
     Registers(u64, u32, Place),
     Refused(u32, u32),

@@ -48,7 +48,7 @@ fn words(out: &mut [u32], n: usize) -> bool
     n <= out.len()
 }
 
-#[derive(Drop)]
+#[derive(Clone, Copy)]
 struct Settings {
     count_regs: u32,
     args: u32,
@@ -93,7 +93,7 @@ fn untouched(parts: [u32; 4]) -> bool {
 }
 
 // A stored answer of one part: the low word, and the high one, whose lower 24 bits are a refusal's number.
-#[derive(Drop)]
+#[derive(Clone, Copy)]
 struct Part {
     low: u32,
     high: u32,

@@ -240,7 +240,7 @@ fn keep(outcome: Outcome, rec: [u32; 8], at: usize, out: &mut [u32])
 }
 
 // How many records were kept, and how many were dropped as what.
-#[derive(Drop)]
+#[derive(Clone, Copy)]
 pub struct Tally {
     pub records: u32,
     pub nops: u32,

@@ -16,7 +16,7 @@ use lives::create;
 use mir::config::Settings;
 
 // What the reduced list and the lent slices have, and what was dropped.
-#[derive(Drop)]
+#[derive(Clone, Copy)]
 pub struct Counts {
     pub records: u32,
     pub statics: u32,
