@@ -7,9 +7,7 @@ use native.Mathlib.Omega.{arith}
 use lib.Dec.{leb}
 use Rattle.allocator.specs.Optimize.{room_for}
 use borrow.Author.Tests.{leb-true, leb-false, le-leb, lt-leb}
-use borrow.Author.Rules.{rules}
-use Rattle.allocator.proofs.has_room.Statement.{statement}
-use Rattle.allocator.proofs.has_room.Tie as tie
+use Rattle.allocator.proofs.has_room.Goals as goal
 
 -- what is added on one side is taken away on the other
 leb-less : (n m k : ℕ) → k ≤ m → leb n (m - k) ≡ leb (n + k) m
@@ -20,6 +18,7 @@ leb-less n m k h = go (leb n (m - k)) refl
     go false e = sym (lt-leb (n + k) m (omega (arith, leb-false n (m - k) e)))
 
 -- the definition, the tests that were passed being true
+
 module _ (list table out colours ends set : ℕ) (h : list ≤ out) where
   past-out : room_for list table out colours ends set ≡ (leb (list / 8 * 2) colours && (leb (list / 8 * 2) ends && leb (list / 8 * 4 + table) set))
   unfolding room_for
@@ -31,33 +30,25 @@ module _ (list table out colours ends set : ℕ) (h : list ≤ out) where
   past-ends : list / 8 * 2 ≤ colours → list / 8 * 2 ≤ ends → room_for list table out colours ends set ≡ leb (list / 8 * 4 + table) set
   past-ends k l = past-colours k ∙ rw (le-leb (list / 8 * 2) ends l)
 
-returns : tie.Need-returns
+pub returns-then-out-list : goal.returns-then-out-list
 unfolding room_for
-returns c = rw (lt-leb c.before.args.list c.before.args.out (omega arith))
+returns-then-out-list c = rw (lt-leb c.args.list c.args.out (omega arith))
 
-returns-2 : tie.Need-returns-2
-returns-2 c =
-    let a = c.before.before.args in
-    rw (past-out a.list a.table a.out a.colours a.ends a.set (omega arith), lt-leb (a.list / 8 * 2) a.colours (omega arith))
+pub returns-then-colours-count : goal.returns-then-colours-count
+returns-then-colours-count c =
+    rw (past-out c.args.list c.args.table c.args.out c.args.colours c.args.ends c.args.set (omega arith), lt-leb (c.args.list / 8 * 2) c.args.colours (omega arith))
 
-returns-3 : tie.Need-returns-3
-returns-3 c =
-    let a = c.before.before.before.args in
-    let e = past-colours a.list a.table a.out a.colours a.ends a.set (omega arith) (omega arith) in
-    rw (e, lt-leb (a.list / 8 * 2) a.ends (omega arith))
+pub returns-then-ends-count : goal.returns-then-ends-count
+returns-then-ends-count c =
+    let e = past-colours c.args.list c.args.table c.args.out c.args.colours c.args.ends c.args.set (omega arith) (omega arith) in
+    rw (e, lt-leb (c.args.list / 8 * 2) c.args.ends (omega arith))
 
-returns-4 : tie.Need-returns-4
-returns-4 c =
-    let a = c.before.before.before.before.args in
-    let e = past-ends a.list a.table a.out a.colours a.ends a.set (omega arith) (omega arith) (omega arith) in
-    rw (e, lt-leb (a.list / 8 * 4 + a.table) a.set (omega arith))
+pub returns-then-set-table : goal.returns-then-set-table
+returns-then-set-table c =
+    let e = past-ends c.args.list c.args.table c.args.out c.args.colours c.args.ends c.args.set (omega arith) (omega arith) (omega arith) in
+    rw (e, lt-leb (c.args.list / 8 * 4 + c.args.table) c.args.set (omega arith))
 
-returns-5 : tie.Need-returns-5
-returns-5 c =
-    let a = c.before.before.before.before.args in
-    let e = past-ends a.list a.table a.out a.colours a.ends a.set (omega arith) (omega arith) (omega arith) in
-    rw e (leb-less (a.list / 8 * 4) a.set a.table (omega arith))
-
-pub has-room-spec : {M : Type 1} → statement M
-has-room-spec =
-    tie.close (tie.spec returns (λ c. search rules) returns-2 (λ c. search rules) returns-3 returns-4 (λ c. search rules) returns-5)
+pub returns : goal.returns
+returns c =
+    let e = past-ends c.args.list c.args.table c.args.out c.args.colours c.args.ends c.args.set (omega arith) (omega arith) (omega arith) in
+    rw e (leb-less (c.args.list / 8 * 4) c.args.set c.args.table (omega arith))
