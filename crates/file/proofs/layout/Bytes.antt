@@ -2,7 +2,7 @@
 -- By induction over the words; a word below 2 ^ 32 is the sum of its four bytes.
 use Prim.Native.Nat.{ℕ, zero, suc, ◌+◌, ◌*◌, ◌/◌, ◌%◌, ◌^◌, ◌<◌, ◌≤◌}
 use mathlib.Core.List.{List, [], ◌∷◌, ◌++◌, append_assoc}
-use mathlib.Core.Path.{◌≡◌, refl, ap, ◌∙◌}
+use mathlib.Core.Path.{◌≡◌, refl, sym, ap, ◌∙◌}
 use native.Mathlib.Nat.{div-add-mod', div-div-eq-div-mul, mod-eq_of_lt}
 use native.Mathlib.Numerals.{add-one}
 use native.Mathlib.Omega.{arith}
@@ -105,18 +105,24 @@ word_after : (front rest : List ℕ) (k w : ℕ) → length front ≡ k * 4 → 
 unfolding word_in
 word_after front rest k w e h = rw (← e) (simp (get_or-append_seam, get_or-append-add) (bytes_sum w h))
 
+cons_eq : {a b : ℕ} {xs ys : List ℕ} → a ≡ b → xs ≡ ys → a ∷ xs ≡ b ∷ ys
+cons_eq p q = cc
+
 -- words that stand after `k` others
 words_after : (ws front rest : List ℕ) (k : ℕ) → length front ≡ k * 4 → ((i : ℕ) → i < length ws → get_or ws i 0 < 2 ^ 32)
     → words_in (front ++ (bytes_of ws ++ rest)) k (length ws) ≡ ws
 unfolding words_in bytes_of
 words_after [] front rest k e h = refl
 words_after (w ∷ ws) front rest k e h =
-    cc (
-      append_assoc (bytes_of_word w) (bytes_of ws) rest,
-      word_after front (bytes_of ws ++ rest) k w e (h 0 (omega arith)),
-      append_assoc front (bytes_of_word w) (bytes_of ws ++ rest),
-      words_after ws (front ++ bytes_of_word w) rest (suc k) (omega (arith, e, length-append front (bytes_of_word w))) (λ i l. h (suc i) (omega arith)),
-    )
+    let tail = bytes_of ws ++ rest in
+    let first : word_in (front ++ (bytes_of_word w ++ tail)) k ≡ w = word_after front tail k w e (h 0 (omega arith)) in
+    let size : length (front ++ bytes_of_word w) ≡ suc k * 4 = omega (arith, e, length-append front (bytes_of_word w)) in
+    let others : words_in ((front ++ bytes_of_word w) ++ tail) (suc k) (length ws) ≡ ws =
+        words_after ws (front ++ bytes_of_word w) rest (suc k) size (λ i l. h (suc i) (omega arith)) in
+    let joined : (front ++ bytes_of_word w) ++ tail ≡ front ++ (bytes_of_word w ++ tail) = append_assoc front (bytes_of_word w) tail in
+    let there : words_in (front ++ (bytes_of_word w ++ tail)) (suc k) (length ws) ≡ ws =
+        ap (λ bytes. words_in bytes (suc k) (length ws)) (sym joined) ∙ others in
+    cons_eq first there
 
 -- words that stand after a first one
 pub words_back : (f : ℕ) (ws rest : List ℕ) → ((k : ℕ) → k < length ws → get_or ws k 0 < 2 ^ 32)
