@@ -1,0 +1,46 @@
+-- `rudzaviks::rudzaviks_optimize` meets its contract: it answers as `optimize` does, or refuses where the counts have no room.
+-- By the promise of either case.
+use Prim.Native.Nat.{◌≤◌}
+use mathlib.Core.Path.{refl}
+use lib.ListN.{length}
+use Rattle.mir.specs.declared.config.Settings.{Settings}
+use Rattle.walks.specs.Lent.{Lent, lent}
+use Rattle.allocator.specs.Optimize.{Optimized}
+use Rattle.file.specs.File.{settings_of}
+use Rattle.rudzaviks.proofs.Optimize.{entry_answered, entry_short}
+use Rattle.rudzaviks.proofs.rudzaviks_optimize.Goals as goal
+
+pub returns-then-counts-lt7 : goal.returns-then-counts-lt7
+returns-then-counts-lt7 c =
+    let verdict = rw c.settings_of-settings.ensures at c.check.ensures in
+    rw c.verdict_word.ensures (entry_short c.check.result c.if-counts-lt7.true verdict)
+
+pub returns-in-Reduced : goal.returns-in-Reduced
+returns-in-Reduced c =
+    -- what the call was given
+    let settings : Settings =
+        settings_of c.args.count_regs c.args.args c.args.complex c.args.arm c.args.compress in
+    let held : Lent =
+        lent c.args.out.now c.args.colours.now c.args.ends.now c.args.set.now in
+    let now_held : Lent =
+        lent c.optimize.new.out c.optimize.new.colours c.optimize.new.ends c.optimize.new.set in
+    let promised : Optimized settings c.args.list.now c.args.table.now held now_held c.optimize.result =
+        rw c.settings_of-settings.ensures at c.optimize.ensures in
+    let room : 7 ≤ length c.args.counts.now =
+        c.if-counts-lt7.false in
+    entry_answered room promised c.in-Reduced.is c.write_counts.ensures
+
+pub returns-in-Refused : goal.returns-in-Refused
+returns-in-Refused c =
+    -- what the call was given
+    let settings : Settings =
+        settings_of c.args.count_regs c.args.args c.args.complex c.args.arm c.args.compress in
+    let held : Lent =
+        lent c.args.out.now c.args.colours.now c.args.ends.now c.args.set.now in
+    let now_held : Lent =
+        lent c.optimize.new.out c.optimize.new.colours c.optimize.new.ends c.optimize.new.set in
+    let promised : Optimized settings c.args.list.now c.args.table.now held now_held c.optimize.result =
+        rw c.settings_of-settings.ensures at c.optimize.ensures in
+    let room : 7 ≤ length c.args.counts.now =
+        c.if-counts-lt7.false in
+    rw c.refusal_word.ensures (entry_answered room promised c.in-Refused.is refl)
