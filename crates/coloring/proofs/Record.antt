@@ -30,7 +30,7 @@ use Rattle.theorems.proofs.Pool.{words}
 use Rattle.mir.specs.Answers.{over}
 use Rattle.coloring.specs.Coloring.{Slices, slices, dest_steps, Ready, Coloured, source_words, wanted_by, record_step, was_found, founds_for, founds_to, marked}
 use Rattle.mir.proofs.Over.{over_get}
-use Rattle.coloring.proofs.Dests.{slices_same, marked_length, marked_at, mark_shows, at, dests_at_lem, ready_at}
+use Rattle.coloring.proofs.Dests.{slices_same, marked_length, marked_at, mark_shows, dests_at_lem, ready_at}
 
 -- as many flags as statics
 founds_for_length : (n i : ℕ) (E : List ℕ) (ds : List (ℕ × Held)) (st : Coloring) → length (founds_for n i E ds st) ≡ gens (words ds)

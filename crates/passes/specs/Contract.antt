@@ -1,9 +1,9 @@
 -- Public, document 01, section 4: contracting. What becomes of each record, the reduced list, and the counts.
-use Rattle.std.specs.Prelude.{ℕ, zero, suc, ◌+◌, ◌-◌, Bool, true, false, cond, ◌&&◌, ◌||◌, not, List, [], ◌∷◌, ◌++◌, leb, eqb, length}
+use Rattle.std.specs.Prelude.{ℕ, zero, suc, ◌+◌, Bool, true, false, cond, ◌&&◌, ◌||◌, not, List, [], ◌∷◌, ◌++◌, leb, eqb, length}
 use Rattle.mir.specs.declared.config.Settings.{Settings}
 use Rattle.mir.specs.declared.shape.Action.{Action}
 use Rattle.mir.specs.declared.shape.Action.TheVariants as action
-use Rattle.mir.specs.Records.{records, record_at, word_at, fixed_mark}
+use Rattle.mir.specs.Records.{records, word_at, fixed_mark}
 use Rattle.mir.specs.Shapes.{shape_for, nop, mov, save, save_complex}
 use Rattle.passes.specs.declared.alloc.Outcome.{Outcome}
 use Rattle.passes.specs.declared.alloc.Outcome.TheVariants.{Kept, Nop, Load, Move, Save}

@@ -11,9 +11,9 @@ pub reduce-requires : goal.reduce-requires
 unfolding room_in verdict_of
 reduce-requires c =
     let held : Lent =
-        lent c.args.out.now c.args.colours.now c.args.ends.now c.args.set.now in
+    lent c.args.out.now c.args.colours.now c.args.ends.now c.args.set.now in
     let verdict_is : c.check.result ≡ verdict_of c.args.settings c.args.list.now c.args.table.now held =
-        c.check.ensures ∙ ap (λ b. refusal b c.args.settings c.args.list.now c.args.table.now) c.has_room-room.ensures in
+    c.check.ensures ∙ ap (λ b. refusal b c.args.settings c.args.list.now c.args.table.now) c.has_room-room.ensures in
     let v = sym verdict_is ∙ c.in-Passed.is in
     record {
       passing = passing c.args.settings c.args.list.now c.args.table.now held v;
@@ -24,16 +24,16 @@ pub returns-in-Passed : goal.returns-in-Passed
 unfolding room_in verdict_of
 returns-in-Passed c =
     let held : Lent =
-        lent c.args.out.now c.args.colours.now c.args.ends.now c.args.set.now in
+    lent c.args.out.now c.args.colours.now c.args.ends.now c.args.set.now in
     let verdict_is : c.check.result ≡ verdict_of c.args.settings c.args.list.now c.args.table.now held =
-        c.check.ensures ∙ ap (λ b. refusal b c.args.settings c.args.list.now c.args.table.now) c.has_room-room.ensures in
+    c.check.ensures ∙ ap (λ b. refusal b c.args.settings c.args.list.now c.args.table.now) c.has_room-room.ensures in
     passed_promise (sym verdict_is ∙ c.in-Passed.is) c.reduce.ensures
 
 pub returns-in-Refused : goal.returns-in-Refused
 unfolding room_in verdict_of
 returns-in-Refused c =
     let held : Lent =
-        lent c.args.out.now c.args.colours.now c.args.ends.now c.args.set.now in
+    lent c.args.out.now c.args.colours.now c.args.ends.now c.args.set.now in
     let verdict_is : c.check.result ≡ verdict_of c.args.settings c.args.list.now c.args.table.now held =
-        c.check.ensures ∙ ap (λ b. refusal b c.args.settings c.args.list.now c.args.table.now) c.has_room-room.ensures in
+    c.check.ensures ∙ ap (λ b. refusal b c.args.settings c.args.list.now c.args.table.now) c.has_room-room.ensures in
     refused_promise (sym verdict_is ∙ c.in-Refused.is)

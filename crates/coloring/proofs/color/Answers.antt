@@ -10,7 +10,7 @@ use Rattle.passes.specs.Contract.{colours_of, members_of, words_of}
 use Rattle.lives.specs.Lives.{Passes}
 use Rattle.sets.specs.Sets.{Indexed}
 use Rattle.coloring.specs.Coloring.{SlicesAre, founds_to, marked}
-use Rattle.coloring.proofs.Invariant.{Call, state, Holds, counted, setup_of, expire_asks, expire_gives, color_asks, color_gives}
+use Rattle.coloring.proofs.Invariant.{Call, state, Holds, setup_of, expire_asks, expire_gives, color_asks, color_gives}
 use Rattle.coloring.proofs.Invariant.{found_gives, reads_are, read_asks, read_gives, colours_same, ends_same}
 use Rattle.sets.proofs.Pairs.{set_length, set_pairs}
 use Rattle.theorems.proofs.NeverEmpty.{ready_to}
@@ -26,7 +26,7 @@ pub reset_allocs-masks-requires : goal.reset_allocs-masks-requires
 reset_allocs-masks-requires c =
     -- what the walk was called with
     let called : Call =
-        record {
+    record {
       settings = c.args.settings;
       list = c.args.list.now;
       table = c.args.table.now;
@@ -39,9 +39,9 @@ reset_allocs-masks-requires c =
       words_room = c.requires.table_in_bounds;
     } in
     let call : Call =
-        called in
+    called in
     let g : Call =
-        call in
+    call in
     let g = called in
     (passing_list g.settings g.list g.table g.passing).few
 
@@ -50,7 +50,7 @@ unfolding color_to founds_to marked words_of
 loop-i-init c =
     -- what the walk was called with
     let called : Call =
-        record {
+    record {
       settings = c.args.settings;
       list = c.args.list.now;
       table = c.args.table.now;
@@ -63,9 +63,9 @@ loop-i-init c =
       words_room = c.requires.table_in_bounds;
     } in
     let call : Call =
-        called in
+    called in
     let g : Call =
-        call in
+    call in
     let g = called in (
       search rules,
       (
@@ -87,7 +87,7 @@ pub overflow_cast-first : goal.overflow_cast-first
 overflow_cast-first c =
     -- what the walk was called with
     let called : Call =
-        record {
+    record {
       settings = c.args.settings;
       list = c.args.list.now;
       table = c.args.table.now;
@@ -100,20 +100,20 @@ overflow_cast-first c =
       words_room = c.requires.table_in_bounds;
     } in
     let call : Call =
-        called in
+    called in
     let g : Call =
-        call in
+    call in
     let words_few : length g.list ≤ 524288 =
-        few_words g.list (listed g) c.loop-i.i c.loop-i-test.true in
+    few_words g.list (listed g) c.loop-i.i c.loop-i-test.true in
     let statics_few : c.loop-i.statics + 2 ≤ (length g.list / 8) * 2 =
-        few_statics g.list (listed g) c.loop-i.i c.loop-i-test.true c.loop-i.invariant.1.0.walked in
+    few_statics g.list (listed g) c.loop-i.i c.loop-i-test.true c.loop-i.invariant.1.0.walked in
     omega (arith, statics_few, words_few)
 
 pub overflow_cast-i : goal.overflow_cast-i
 overflow_cast-i c =
     -- what the walk was called with
     let called : Call =
-        record {
+    record {
       settings = c.args.settings;
       list = c.args.list.now;
       table = c.args.table.now;
@@ -126,18 +126,18 @@ overflow_cast-i c =
       words_room = c.requires.table_in_bounds;
     } in
     let call : Call =
-        called in
+    called in
     let g : Call =
-        call in
+    call in
     let words_few : length g.list ≤ 524288 =
-        few_words g.list (listed g) c.loop-i.i c.loop-i-test.true in
+    few_words g.list (listed g) c.loop-i.i c.loop-i-test.true in
     omega (arith, c.loop-i-test.true, words_few)
 
 pub expire_sources-freed-requires : goal.expire_sources-freed-requires
 expire_sources-freed-requires c =
     -- what the walk was called with
     let called : Call =
-        record {
+    record {
       settings = c.args.settings;
       list = c.args.list.now;
       table = c.args.table.now;
@@ -150,9 +150,9 @@ expire_sources-freed-requires c =
       words_room = c.requires.table_in_bounds;
     } in
     let call : Call =
-        called in
+    called in
     let g : Call =
-        call in
+    call in
     let all = expire_asks g c.loop-i.invariant.1.0 c.loop-i-test.true c.record_at-rec.ensures in
     record {
       rec_value = all.0;
@@ -164,7 +164,7 @@ pub overflow_cast-i-in-loop-i : goal.overflow_cast-i-in-loop-i
 overflow_cast-i-in-loop-i c =
     -- what the walk was called with
     let called : Call =
-        record {
+    record {
       settings = c.args.settings;
       list = c.args.list.now;
       table = c.args.table.now;
@@ -177,18 +177,18 @@ overflow_cast-i-in-loop-i c =
       words_room = c.requires.table_in_bounds;
     } in
     let call : Call =
-        called in
+    called in
     let g : Call =
-        call in
+    call in
     let words_few : length g.list ≤ 524288 =
-        few_words g.list (listed g) c.loop-i.i c.loop-i-test.true in
+    few_words g.list (listed g) c.loop-i.i c.loop-i-test.true in
     omega (arith, c.loop-i-test.true, words_few)
 
 pub color_record-colored-requires : goal.color_record-colored-requires
 color_record-colored-requires c =
     -- what the walk was called with
     let called : Call =
-        record {
+    record {
       settings = c.args.settings;
       list = c.args.list.now;
       table = c.args.table.now;
@@ -201,12 +201,12 @@ color_record-colored-requires c =
       words_room = c.requires.table_in_bounds;
     } in
     let call : Call =
-        called in
+    called in
     let g : Call =
-        call in
+    call in
     -- the masks tell of the colours at the record
     let at_record : Holds g.settings.count_regs g.list g.table g.colours g.ends c.loop-i.i c.loop-i.i (state c.expire_sources-freed.result c.loop-i.lives c.loop-i.locs c.loop-i.colours c.loop-i.ends) =
-        expire_gives g c.loop-i.invariant.1.0 c.loop-i-test.true c.record_at-rec.ensures c.expire_sources-freed.ensures in
+    expire_gives g c.loop-i.invariant.1.0 c.loop-i-test.true c.record_at-rec.ensures c.expire_sources-freed.ensures in
     let all = color_asks g c.loop-i.invariant.1.0 c.loop-i-test.true c.record_at-rec.ensures at_record in
     record {
       rec_value = all.0;
@@ -224,7 +224,7 @@ pub was_found-found-requires : goal.was_found-found-requires
 was_found-found-requires c =
     -- what the walk was called with
     let called : Call =
-        record {
+    record {
       settings = c.args.settings;
       list = c.args.list.now;
       table = c.args.table.now;
@@ -237,11 +237,11 @@ was_found-found-requires c =
       words_room = c.requires.table_in_bounds;
     } in
     let call : Call =
-        called in
+    called in
     let g : Call =
-        call in
+    call in
     let statics_few : c.loop-i.statics + 2 ≤ (length g.list / 8) * 2 =
-        few_statics g.list (listed g) c.loop-i.i c.loop-i-test.true c.loop-i.invariant.1.0.walked in
+    few_statics g.list (listed g) c.loop-i.i c.loop-i-test.true c.loop-i.invariant.1.0.walked in
     let inv = c.loop-i.invariant in
     omega (arith, statics_few, g.ends_room, ends_same g inv.1.0 inv.0, c.color_record-colored.auto.ends)
 
@@ -249,7 +249,7 @@ pub read_record-grown-requires : goal.read_record-grown-requires
 read_record-grown-requires c =
     -- what the walk was called with
     let called : Call =
-        record {
+    record {
       settings = c.args.settings;
       list = c.args.list.now;
       table = c.args.table.now;
@@ -262,19 +262,19 @@ read_record-grown-requires c =
       words_room = c.requires.table_in_bounds;
     } in
     let call : Call =
-        called in
+    called in
     let g : Call =
-        call in
+    call in
     -- the masks tell of the colours at the record
     let at_record : Holds g.settings.count_regs g.list g.table g.colours g.ends c.loop-i.i c.loop-i.i (state c.expire_sources-freed.result c.loop-i.lives c.loop-i.locs c.loop-i.colours c.loop-i.ends) =
-        expire_gives g c.loop-i.invariant.1.0 c.loop-i-test.true c.record_at-rec.ensures c.expire_sources-freed.ensures in
+    expire_gives g c.loop-i.invariant.1.0 c.loop-i-test.true c.record_at-rec.ensures c.expire_sources-freed.ensures in
     -- what is lent after the record, and that the masks tell of the colours there
     let after : Holds g.settings.count_regs g.list g.table g.colours g.ends (c.loop-i.i + 1) c.loop-i.i (state c.color_record-colored.result c.color_record-colored.new.lives c.color_record-colored.new.locs c.color_record-colored.new.colours c.color_record-colored.new.ends) =
-        let n = g.settings.count_regs in
+    let n = g.settings.count_regs in
     subst (λ σ. SlicesAre n c.loop-i.i σ c.color_record-colored.result c.color_record-colored.new.lives c.color_record-colored.new.locs c.color_record-colored.new.colours c.color_record-colored.new.ends)
     (color_gives g c.loop-i.invariant.1.0 c.loop-i-test.true c.record_at-rec.ensures at_record) c.color_record-colored.ensures in
     let found_is : c.was_found-found.result ≡ found_at (setup_of g) c.loop-i.i (color_to (setup_of g) c.loop-i.i) =
-        c.was_found-found.ensures
+    c.was_found-found.ensures
     ∙ found_gives g c.loop-i.invariant.1.0 c.loop-i-test.true c.record_at-rec.ensures after.ends in
     let inv = c.loop-i.invariant in
     let all = read_asks g inv.1.0 c.loop-i-test.true c.record_at-rec.ensures found_is in
@@ -290,7 +290,7 @@ pub rename-requires : goal.rename-requires
 rename-requires c =
     -- what the walk was called with
     let called : Call =
-        record {
+    record {
       settings = c.args.settings;
       list = c.args.list.now;
       table = c.args.table.now;
@@ -303,13 +303,13 @@ rename-requires c =
       words_room = c.requires.table_in_bounds;
     } in
     let call : Call =
-        called in
+    called in
     let g : Call =
-        call in
+    call in
     let words_few : length g.list ≤ 524288 =
-        few_words g.list (listed g) c.loop-i.i c.loop-i-test.true in
+    few_words g.list (listed g) c.loop-i.i c.loop-i-test.true in
     let statics_few : c.loop-i.statics + 2 ≤ (length g.list / 8) * 2 =
-        few_statics g.list (listed g) c.loop-i.i c.loop-i-test.true c.loop-i.invariant.1.0.walked in
+    few_statics g.list (listed g) c.loop-i.i c.loop-i-test.true c.loop-i.invariant.1.0.walked in
     record {
       rec_value = gens_fit_lem g.list (listed g) c.loop-i.i c.loop-i-test.true c.record_at-rec.ensures;
       next_bound = omega (arith, statics_few, words_few);
@@ -319,7 +319,7 @@ pub overflow_add-statics : goal.overflow_add-statics
 overflow_add-statics c =
     -- what the walk was called with
     let called : Call =
-        record {
+    record {
       settings = c.args.settings;
       list = c.args.list.now;
       table = c.args.table.now;
@@ -332,20 +332,20 @@ overflow_add-statics c =
       words_room = c.requires.table_in_bounds;
     } in
     let call : Call =
-        called in
+    called in
     let g : Call =
-        call in
+    call in
     let words_few : length g.list ≤ 524288 =
-        few_words g.list (listed g) c.loop-i.i c.loop-i-test.true in
+    few_words g.list (listed g) c.loop-i.i c.loop-i-test.true in
     let statics_few : c.loop-i.statics + 2 ≤ (length g.list / 8) * 2 =
-        few_statics g.list (listed g) c.loop-i.i c.loop-i-test.true c.loop-i.invariant.1.0.walked in
+    few_statics g.list (listed g) c.loop-i.i c.loop-i-test.true c.loop-i.invariant.1.0.walked in
     rw c.count_statics-statics.ensures (omega (arith, statics_few, words_few, gens_two c.record_at-rec.result))
 
 pub overflow_add-i : goal.overflow_add-i
 overflow_add-i c =
     -- what the walk was called with
     let called : Call =
-        record {
+    record {
       settings = c.args.settings;
       list = c.args.list.now;
       table = c.args.table.now;
@@ -358,11 +358,11 @@ overflow_add-i c =
       words_room = c.requires.table_in_bounds;
     } in
     let call : Call =
-        called in
+    called in
     let g : Call =
-        call in
+    call in
     let words_few : length g.list ≤ 524288 =
-        few_words g.list (listed g) c.loop-i.i c.loop-i-test.true in
+    few_words g.list (listed g) c.loop-i.i c.loop-i-test.true in
     omega (arith, c.loop-i-test.true, words_few)
 
 pub loop-i-smaller : goal.loop-i-smaller
@@ -373,7 +373,7 @@ pub loop-i-preserved : goal.loop-i-preserved
 loop-i-preserved c =
     -- what the walk was called with
     let called : Call =
-        record {
+    record {
       settings = c.args.settings;
       list = c.args.list.now;
       table = c.args.table.now;
@@ -386,24 +386,23 @@ loop-i-preserved c =
       words_room = c.requires.table_in_bounds;
     } in
     let call : Call =
-        called in
+    called in
     let g : Call =
-        call in
+    call in
     -- the masks tell of the colours at the record
     let at_record : Holds g.settings.count_regs g.list g.table g.colours g.ends c.loop-i.i c.loop-i.i (state c.expire_sources-freed.result c.loop-i.lives c.loop-i.locs c.loop-i.colours c.loop-i.ends) =
-        expire_gives g c.loop-i.invariant.1.0 c.loop-i-test.true c.record_at-rec.ensures c.expire_sources-freed.ensures in
+    expire_gives g c.loop-i.invariant.1.0 c.loop-i-test.true c.record_at-rec.ensures c.expire_sources-freed.ensures in
     -- what is lent after the record, and that the masks tell of the colours there
     let after : Holds g.settings.count_regs g.list g.table g.colours g.ends (c.loop-i.i + 1) c.loop-i.i (state c.color_record-colored.result c.color_record-colored.new.lives c.color_record-colored.new.locs c.color_record-colored.new.colours c.color_record-colored.new.ends) =
-        let n = g.settings.count_regs in
+    let n = g.settings.count_regs in
     subst (λ σ. SlicesAre n c.loop-i.i σ c.color_record-colored.result c.color_record-colored.new.lives c.color_record-colored.new.locs c.color_record-colored.new.colours c.color_record-colored.new.ends)
     (color_gives g c.loop-i.invariant.1.0 c.loop-i-test.true c.record_at-rec.ensures at_record) c.color_record-colored.ensures in
     let found_is : c.was_found-found.result ≡ found_at (setup_of g) c.loop-i.i (color_to (setup_of g) c.loop-i.i) =
-        c.was_found-found.ensures
+    c.was_found-found.ensures
     ∙ found_gives g c.loop-i.invariant.1.0 c.loop-i-test.true c.record_at-rec.ensures after.ends in
     let inv = c.loop-i.invariant in
     let e = c.record_at-rec.ensures in
-    let f = found_is in
-    (
+    let f = found_is in (
       omega (arith, c.loop-i-test.true),
       (
         record {
@@ -426,7 +425,7 @@ pub overflow_cast-result : goal.overflow_cast-result
 overflow_cast-result c =
     -- what the walk was called with
     let called : Call =
-        record {
+    record {
       settings = c.args.settings;
       list = c.args.list.now;
       table = c.args.table.now;
@@ -439,7 +438,7 @@ overflow_cast-result c =
       words_room = c.requires.table_in_bounds;
     } in
     let call : Call =
-        called in
+    called in
     let h = call in
     let p = passing_list h.settings h.list h.table h.passing in
     omega (arith, c.loop-i.invariant.1.0.walked.statics_are, statics_two h.list c.loop-i.i, c.loop-i.invariant.0, p.sized.small)
@@ -448,7 +447,7 @@ pub shape_of-colours : goal.shape_of-colours
 shape_of-colours c =
     -- what the walk was called with
     let called : Call =
-        record {
+    record {
       settings = c.args.settings;
       list = c.args.list.now;
       table = c.args.table.now;
@@ -461,14 +460,14 @@ shape_of-colours c =
       words_room = c.requires.table_in_bounds;
     } in
     let call : Call =
-        called in
+    called in
     colours_same call c.loop-i.invariant.1.0 c.loop-i.invariant.0
 
 pub shape_of-ends : goal.shape_of-ends
 shape_of-ends c =
     -- what the walk was called with
     let called : Call =
-        record {
+    record {
       settings = c.args.settings;
       list = c.args.list.now;
       table = c.args.table.now;
@@ -481,7 +480,7 @@ shape_of-ends c =
       words_room = c.requires.table_in_bounds;
     } in
     let call : Call =
-        called in
+    called in
     ends_same call c.loop-i.invariant.1.0 c.loop-i.invariant.0
 
 pub shape_of-set : goal.shape_of-set
@@ -495,7 +494,7 @@ unfolding colours_of members_of
 returns c =
     -- what the walk was called with
     let called : Call =
-        record {
+    record {
       settings = c.args.settings;
       list = c.args.list.now;
       table = c.args.table.now;
@@ -508,7 +507,7 @@ returns c =
       words_room = c.requires.table_in_bounds;
     } in
     let call : Call =
-        called in
+    called in
     let h = call in
     let e : c.loop-i.i ≡ length h.list / 8 = omega (arith, c.loop-i.invariant.0, c.loop-i-test.false) in
     let v = rw e at c.loop-i.invariant.1.0 in

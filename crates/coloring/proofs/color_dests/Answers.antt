@@ -17,7 +17,7 @@ use Rattle.coloring.proofs.color_dests.Goals as goal
 pub color_dest-requires : goal.color_dest-requires
 color_dest-requires c =
     let one : dests c.args.rec ≡ c.in-One.x ∷ [] =
-        dests_told c.dests_of.ensures c.in-One.is in
+    dests_told c.dests_of.ensures c.in-One.is in
     let r = rw one at c.requires.ready in
     record {
       masked = c.requires.masked;
@@ -29,7 +29,7 @@ color_dest-requires c =
 pub color_dest-given-requires : goal.color_dest-given-requires
 color_dest-given-requires c =
     let two : dests c.args.rec ≡ c.in-Two.x ∷ c.in-Two.y ∷ [] =
-        dests_told c.dests_of.ensures c.in-Two.is in
+    dests_told c.dests_of.ensures c.in-Two.is in
     let r = rw two at c.requires.ready in
     record {
       masked = c.requires.masked;
@@ -45,7 +45,7 @@ overflow_add-after c =
 pub color_dest-requires-in-Two : goal.color_dest-requires-in-Two
 color_dest-requires-in-Two c =
     let two : dests c.args.rec ≡ c.in-Two.x ∷ c.in-Two.y ∷ [] =
-        dests_told c.dests_of.ensures c.in-Two.is in
+    dests_told c.dests_of.ensures c.in-Two.is in
     let r = rw two at c.requires.ready in
     let w = one_le c.in-Two.x in
     let e = c.count_static.ensures in
@@ -66,12 +66,12 @@ pub returns-in-One : goal.returns-in-One
 unfolding dest_steps
 returns-in-One c =
     let one : dests c.args.rec ≡ c.in-One.x ∷ [] =
-        dests_told c.dests_of.ensures c.in-One.is in
+    dests_told c.dests_of.ensures c.in-One.is in
     rw one c.color_dest.ensures
 
 pub returns-in-Two : goal.returns-in-Two
 unfolding dest_steps
 returns-in-Two c =
     let two : dests c.args.rec ≡ c.in-Two.x ∷ c.in-Two.y ∷ [] =
-        dests_told c.dests_of.ensures c.in-Two.is in
+    dests_told c.dests_of.ensures c.in-Two.is in
     rw (two, ← (lent_are c.color_dest-given.ensures), ← c.count_static.ensures) c.color_dest-in-Two.ensures

@@ -21,20 +21,20 @@ use Rattle.coloring.proofs.color_record.Goals as goal
 pub want_x-hx-requires : goal.want_x-hx-requires
 want_x-hx-requires c =
     let act : Action =
-        (shape_for c.args.rec).action in
+    (shape_for c.args.rec).action in
     let action_is : c.shape_of-s.result.action ≡ act =
-        ap (λ (x : Shape). x.action) c.shape_of-s.ensures in
+    ap (λ (x : Shape). x.action) c.shape_of-s.ensures in
     let loc_is : c.loc_of-l.result ≡ loc_of c.args.rec =
-        c.loc_of-l.ensures in
+    c.loc_of-l.ensures in
     -- the sources' colours
     let colour : ℕ → ℕ =
-        λ j. get_or (source_words (currents_in c.args.regs.now) c.args.colours.now c.args.rec) j 0 in
+    λ j. get_or (source_words (currents_in c.args.regs.now) c.args.colours.now c.args.rec) j 0 in
     let x_is : c.source_at-x.result ≡ colour 0 =
-        c.source_at-x.ensures in
+    c.source_at-x.ensures in
     let used : (j : ℕ) → j < sources_used act → colour j < 256 → colour j < c.args.n =
-        λ j. used_coloured c.args.rec (omega arith) (source_word (currents_in c.args.regs.now) c.args.colours.now) c.args.n j c.requires.coloured in
+    λ j. used_coloured c.args.rec (omega arith) (source_word (currents_in c.args.regs.now) c.args.colours.now) c.args.n j c.requires.coloured in
     let used_as : (j w : ℕ) → w ≡ colour j → j < sources_used c.shape_of-s.result.action → w < 256 → w < c.args.n =
-        λ j w e u l. rw e (used j (rw (← action_is) u) (rw e at l)) in
+    λ j w e u l. rw e (used j (rw (← action_is) u) (rw e at l)) in
     let few = c.requires.masked.few in
     record {
       space_lt_any = rw loc_is c.requires.rec_bound;
@@ -44,14 +44,14 @@ want_x-hx-requires c =
 pub want_y-hy-requires : goal.want_y-hy-requires
 want_y-hy-requires c =
     let act : Action =
-        (shape_for c.args.rec).action in
+    (shape_for c.args.rec).action in
     let action_is : c.shape_of-s.result.action ≡ act =
-        ap (λ (x : Shape). x.action) c.shape_of-s.ensures in
+    ap (λ (x : Shape). x.action) c.shape_of-s.ensures in
     let loc_is : c.loc_of-l.result ≡ loc_of c.args.rec =
-        c.loc_of-l.ensures in
+    c.loc_of-l.ensures in
     -- the partner of a two-part record's location
     let partner : (k : Action) → is_complex k ≡ true → c.shape_of-s.result.action ≡ k → (loc_of c.args.rec).index < any =
-        λ k t e. partner_below c.args.rec (ap is_complex (sym action_is ∙ e) ∙ t) c.requires.rec_value_2 in
+    λ k t e. partner_below c.args.rec (ap is_complex (sym action_is ∙ e) ∙ t) c.requires.rec_value_2 in
     record {
       space_lt_any = rw loc_is c.requires.rec_bound;
       index_lt_any = λ e. rw loc_is (partner _ refl e);
@@ -61,23 +61,23 @@ pub color_dests-given-requires : goal.color_dests-given-requires
 color_dests-given-requires c =
     -- what was lent
     let before : Slices =
-        slices_in c.args.lives.now c.args.locs.now c.args.colours.now c.args.ends.now in
+    slices_in c.args.lives.now c.args.locs.now c.args.colours.now c.args.ends.now in
     let act : Action =
-        (shape_for c.args.rec).action in
+    (shape_for c.args.rec).action in
     let action_is : c.shape_of-s.result.action ≡ act =
-        ap (λ (x : Shape). x.action) c.shape_of-s.ensures in
+    ap (λ (x : Shape). x.action) c.shape_of-s.ensures in
     let loc_is : c.loc_of-l.result ≡ loc_of c.args.rec =
-        c.loc_of-l.ensures in
+    c.loc_of-l.ensures in
     -- the sources' colours
     let colour : ℕ → ℕ =
-        λ j. get_or (source_words (currents_in c.args.regs.now) c.args.colours.now c.args.rec) j 0 in
+    λ j. get_or (source_words (currents_in c.args.regs.now) c.args.colours.now c.args.rec) j 0 in
     let x_is : c.source_at-x.result ≡ colour 0 =
-        c.source_at-x.ensures in
+    c.source_at-x.ensures in
     let standing : Stands c.args.n c.args.i c.args.masks c.args.lives.now c.args.locs.now before.allocs =
-        record { same = refl; masked = c.requires.masked } in
+    record { same = refl; masked = c.requires.masked } in
     -- what the destinations are wanted with is what the definition says
     let wanted_is : wanted (dests c.args.rec) (held_in c.want_x-hx.result) (held_in c.want_y-hy.result) ≡ wanted_by (currents_in c.args.regs.now) c.args.rec before =
-        let l = c.loc_of-l.result in
+    let l = c.loc_of-l.result in
     let held = held_by before.allocs in
     let x = c.want_x-hx.ensures c.args.n c.args.i c.args.masks c.args.lives.now _ standing
     ∙ (ap (λ k. want_x k l (held c.source_at-x.result)) action_is
@@ -94,25 +94,25 @@ color_dests-given-requires c =
 pub update_allocs-requires : goal.update_allocs-requires
 update_allocs-requires c =
     let act : Action =
-        (shape_for c.args.rec).action in
+    (shape_for c.args.rec).action in
     let action_is : c.shape_of-s.result.action ≡ act =
-        ap (λ (x : Shape). x.action) c.shape_of-s.ensures in
+    ap (λ (x : Shape). x.action) c.shape_of-s.ensures in
     let loc_is : c.loc_of-l.result ≡ loc_of c.args.rec =
-        c.loc_of-l.ensures in
+    c.loc_of-l.ensures in
     -- the sources' colours
     let colour : ℕ → ℕ =
-        λ j. get_or (source_words (currents_in c.args.regs.now) c.args.colours.now c.args.rec) j 0 in
+    λ j. get_or (source_words (currents_in c.args.regs.now) c.args.colours.now c.args.rec) j 0 in
     let x_is : c.source_at-x.result ≡ colour 0 =
-        c.source_at-x.ensures in
+    c.source_at-x.ensures in
     let y_is : c.source_at-y.result ≡ colour 1 =
-        c.source_at-y.ensures in
+    c.source_at-y.ensures in
     let used : (j : ℕ) → j < sources_used act → colour j < 256 → colour j < c.args.n =
-        λ j. used_coloured c.args.rec (omega arith) (source_word (currents_in c.args.regs.now) c.args.colours.now) c.args.n j c.requires.coloured in
+    λ j. used_coloured c.args.rec (omega arith) (source_word (currents_in c.args.regs.now) c.args.colours.now) c.args.n j c.requires.coloured in
     let used_as : (j w : ℕ) → w ≡ colour j → j < sources_used c.shape_of-s.result.action → w < 256 → w < c.args.n =
-        λ j w e u l. rw e (used j (rw (← action_is) u) (rw e at l)) in
+    λ j w e u l. rw e (used j (rw (← action_is) u) (rw e at l)) in
     -- the partner of a two-part record's location
     let partner : (k : Action) → is_complex k ≡ true → c.shape_of-s.result.action ≡ k → (loc_of c.args.rec).index < any =
-        λ k t e. partner_below c.args.rec (ap is_complex (sym action_is ∙ e) ∙ t) c.requires.rec_value_2 in
+    λ k t e. partner_below c.args.rec (ap is_complex (sym action_is ∙ e) ∙ t) c.requires.rec_value_2 in
     record {
       n_le_max_regs = c.requires.masked.few;
       space_lt_any = rw loc_is c.requires.rec_bound;
@@ -126,25 +126,25 @@ unfolding record_step
 returns c =
     -- what was lent
     let before : Slices =
-        slices_in c.args.lives.now c.args.locs.now c.args.colours.now c.args.ends.now in
+    slices_in c.args.lives.now c.args.locs.now c.args.colours.now c.args.ends.now in
     let act : Action =
-        (shape_for c.args.rec).action in
+    (shape_for c.args.rec).action in
     let action_is : c.shape_of-s.result.action ≡ act =
-        ap (λ (x : Shape). x.action) c.shape_of-s.ensures in
+    ap (λ (x : Shape). x.action) c.shape_of-s.ensures in
     let loc_is : c.loc_of-l.result ≡ loc_of c.args.rec =
-        c.loc_of-l.ensures in
+    c.loc_of-l.ensures in
     -- the sources' colours
     let colour : ℕ → ℕ =
-        λ j. get_or (source_words (currents_in c.args.regs.now) c.args.colours.now c.args.rec) j 0 in
+    λ j. get_or (source_words (currents_in c.args.regs.now) c.args.colours.now c.args.rec) j 0 in
     let x_is : c.source_at-x.result ≡ colour 0 =
-        c.source_at-x.ensures in
+    c.source_at-x.ensures in
     let y_is : c.source_at-y.result ≡ colour 1 =
-        c.source_at-y.ensures in
+    c.source_at-y.ensures in
     let standing : Stands c.args.n c.args.i c.args.masks c.args.lives.now c.args.locs.now before.allocs =
-        record { same = refl; masked = c.requires.masked } in
+    record { same = refl; masked = c.requires.masked } in
     -- what the destinations are wanted with is what the definition says
     let wanted_is : wanted (dests c.args.rec) (held_in c.want_x-hx.result) (held_in c.want_y-hy.result) ≡ wanted_by (currents_in c.args.regs.now) c.args.rec before =
-        let l = c.loc_of-l.result in
+    let l = c.loc_of-l.result in
     let held = held_by before.allocs in
     let x = c.want_x-hx.ensures c.args.n c.args.i c.args.masks c.args.lives.now _ standing
     ∙ (ap (λ k. want_x k l (held c.source_at-x.result)) action_is

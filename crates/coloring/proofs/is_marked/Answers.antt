@@ -1,6 +1,5 @@
 -- `coloring::is_marked` meets its contract: both tests are the definition's.
 use borrow.Author.Tests.{lt-ltb, le-ltb}
-use borrow.Author.Rules.{rules}
 use Rattle.coloring.proofs.is_marked.Goals as goal
 
 pub returns-then-w-ge256 : goal.returns-then-w-ge256

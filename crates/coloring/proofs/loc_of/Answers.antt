@@ -4,7 +4,6 @@ use native.Mathlib.Omega.{arith}
 use lib.ListN.{get_or}
 use Rattle.mir.specs.declared.shape.Shape.{Shape}
 use Rattle.mir.proofs.Shapes.{loc_in_record}
-use borrow.Author.Rules.{rules}
 use Rattle.coloring.proofs.loc_of.Goals as goal
 
 pub offset_bounds-rec-p : goal.offset_bounds-rec-p

@@ -3,20 +3,15 @@ use mathlib.Core.Bool.{false}
 use mathlib.Core.Path.{◌≡◌, sym, ap, ◌∙◌}
 use borrow.Author.Tests.{ne_eqb}
 use lib.Dec.{eqb}
-use lib.ListN.{length}
 use Rattle.mir.specs.declared.shape.Action.{Action}
 use Rattle.mir.specs.declared.shape.Shape.{Shape}
 use Rattle.mir.specs.Records.{word_at}
 use Rattle.mir.specs.Shapes.{shape_for}
 use Rattle.mir.proofs.Shapes.{args_kind, is_complex}
-use Rattle.passes.specs.Color.{pairs_from, joined}
+use Rattle.passes.specs.Color.{joined}
 use Rattle.theorems.proofs.Members.{args_inside}
-use Rattle.mir.specs.Answers.{over}
-use Rattle.passes.specs.Contract.{words_of}
 use Rattle.sets.proofs.Pairs.{set_first}
 use Rattle.coloring.proofs.Sources.{partner_below}
-use Rattle.sets.specs.Sets.{Indexed}
-use borrow.Author.Rules.{rules}
 use Rattle.coloring.proofs.read_record.Goals as goal
 
 -- the record's action, as the branch has it

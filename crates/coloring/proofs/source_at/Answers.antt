@@ -12,23 +12,22 @@ use Rattle.mir.proofs.Shapes.{regs_in_record}
 use Rattle.passes.specs.Color.{source_word}
 use Rattle.mir.proofs.Words.{fits_at}
 use Rattle.coloring.proofs.Sources.{source_none, source_word_lem}
-use borrow.Author.Rules.{rules}
 use Rattle.coloring.proofs.source_at.Goals as goal
 
 pub returns-then-s-j : goal.returns-then-s-j
 returns-then-s-j c =
     let len : length c.args.rec ≡ 8 =
-        (omega arith) in
+    (omega arith) in
     let k : (shape_for c.args.rec).srcs ≤ c.args.j = rw c.shape_of-s.ensures at c.if-s-j.true in
     sym (source_none c.args.rec len (source_word (currents_in c.args.regs.now) c.args.colours.now) c.args.j k)
 
 pub overflow_add-p : goal.overflow_add-p
 overflow_add-p c =
     let is_shape : c.shape_of-s.result ≡ shape_for c.args.rec =
-        c.shape_of-s.ensures in
+    c.shape_of-s.ensures in
     -- the source's place is within the record
     let within : c.shape_of-s.result.regs + c.shape_of-s.result.dsts + c.args.j < 8 =
-        let k : c.args.j < c.shape_of-s.result.srcs = c.if-s-j.false in
+    let k : c.args.j < c.shape_of-s.result.srcs = c.if-s-j.false in
     let r : c.shape_of-s.result.regs + (c.shape_of-s.result.dsts + c.shape_of-s.result.srcs) ≤ 8 = rw is_shape (regs_in_record (get_or c.args.rec 0 0)) in
     omega (arith, k, r) in
     omega (arith, within)
@@ -36,10 +35,10 @@ overflow_add-p c =
 pub overflow_add-p-2 : goal.overflow_add-p-2
 overflow_add-p-2 c =
     let is_shape : c.shape_of-s.result ≡ shape_for c.args.rec =
-        c.shape_of-s.ensures in
+    c.shape_of-s.ensures in
     -- the source's place is within the record
     let within : c.shape_of-s.result.regs + c.shape_of-s.result.dsts + c.args.j < 8 =
-        let k : c.args.j < c.shape_of-s.result.srcs = c.if-s-j.false in
+    let k : c.args.j < c.shape_of-s.result.srcs = c.if-s-j.false in
     let r : c.shape_of-s.result.regs + (c.shape_of-s.result.dsts + c.shape_of-s.result.srcs) ≤ 8 = rw is_shape (regs_in_record (get_or c.args.rec 0 0)) in
     omega (arith, k, r) in
     omega (arith, within)
@@ -47,10 +46,10 @@ overflow_add-p-2 c =
 pub offset_bounds-rec-p : goal.offset_bounds-rec-p
 offset_bounds-rec-p c =
     let is_shape : c.shape_of-s.result ≡ shape_for c.args.rec =
-        c.shape_of-s.ensures in
+    c.shape_of-s.ensures in
     -- the source's place is within the record
     let within : c.shape_of-s.result.regs + c.shape_of-s.result.dsts + c.args.j < 8 =
-        let k : c.args.j < c.shape_of-s.result.srcs = c.if-s-j.false in
+    let k : c.args.j < c.shape_of-s.result.srcs = c.if-s-j.false in
     let r : c.shape_of-s.result.regs + (c.shape_of-s.result.dsts + c.shape_of-s.result.srcs) ≤ 8 = rw is_shape (regs_in_record (get_or c.args.rec 0 0)) in
     omega (arith, k, r) in
     omega (arith, within)
@@ -58,10 +57,10 @@ offset_bounds-rec-p c =
 pub bounds-rec-p : goal.bounds-rec-p
 bounds-rec-p c =
     let is_shape : c.shape_of-s.result ≡ shape_for c.args.rec =
-        c.shape_of-s.ensures in
+    c.shape_of-s.ensures in
     -- the source's place is within the record
     let within : c.shape_of-s.result.regs + c.shape_of-s.result.dsts + c.args.j < 8 =
-        let k : c.args.j < c.shape_of-s.result.srcs = c.if-s-j.false in
+    let k : c.args.j < c.shape_of-s.result.srcs = c.if-s-j.false in
     let r : c.shape_of-s.result.regs + (c.shape_of-s.result.dsts + c.shape_of-s.result.srcs) ≤ 8 = rw is_shape (regs_in_record (get_or c.args.rec 0 0)) in
     omega (arith, k, r) in
     omega (arith, within)
@@ -70,9 +69,9 @@ pub deallocate-requires : goal.deallocate-requires
 unfolding sources
 deallocate-requires c =
     let len : length c.args.rec ≡ 8 =
-        (omega arith) in
+    (omega arith) in
     let is_shape : c.shape_of-s.result ≡ shape_for c.args.rec =
-        c.shape_of-s.ensures in
+    c.shape_of-s.ensures in
     let rec = c.args.rec in
     let room : (shape_for rec).regs + (shape_for rec).dsts + (shape_for rec).srcs ≤ length rec = omega (arith, len, regs_in_record (get_or rec 0 0)) in
     let there : c.args.j < (shape_for rec).srcs = rw is_shape at c.if-s-j.false in
@@ -85,7 +84,7 @@ deallocate-requires c =
 pub returns : goal.returns
 returns c =
     let len : length c.args.rec ≡ 8 =
-        (omega arith) in
+    (omega arith) in
     let f = source_word (currents_in c.args.regs.now) c.args.colours.now in
     c.deallocate.ensures
     ∙ (ap (λ (s : Shape). f (word_at c.args.rec (s.regs + s.dsts + c.args.j))) c.shape_of-s.ensures

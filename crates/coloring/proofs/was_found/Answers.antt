@@ -7,7 +7,6 @@ use borrow.Author.Tests.{not-true, not-false}
 use Rattle.mir.specs.Shapes.{dests}
 use Rattle.mir.proofs.Shapes.{dests_told}
 use Rattle.coloring.specs.Coloring.{was_found}
-use borrow.Author.Rules.{rules}
 use Rattle.coloring.proofs.was_found.Goals as goal
 
 -- a marked word is Gen
@@ -19,7 +18,7 @@ pub returns-then-not-is_marked : goal.returns-then-not-is_marked
 unfolding was_found
 returns-then-not-is_marked c =
     let two : dests c.args.rec ≡ c.in-Two.x ∷ c.in-Two.y ∷ [] =
-        dests_told c.dests_of.ensures c.in-Two.is in
+    dests_told c.dests_of.ensures c.in-Two.is in
     rw (two, sym c.is_marked-in-Two.ensures ∙ not-true _ c.if-not-is_marked.true-raw) refl
 
 pub returns-in-Nothing : goal.returns-in-Nothing
@@ -34,6 +33,6 @@ pub returns-else-not-is_marked : goal.returns-else-not-is_marked
 unfolding was_found
 returns-else-not-is_marked c =
     let two : dests c.args.rec ≡ c.in-Two.x ∷ c.in-Two.y ∷ [] =
-        dests_told c.dests_of.ensures c.in-Two.is in
+    dests_told c.dests_of.ensures c.in-Two.is in
     let m = sym c.is_marked-in-Two.ensures ∙ not-false _ c.if-not-is_marked.false-raw in
     rw (two, one-static _ _ m, m, and-true _) c.is_marked-in-Two-2.ensures

@@ -118,10 +118,10 @@ words_after (w ∷ ws) front rest k e h =
     let first : word_in (front ++ (bytes_of_word w ++ tail)) k ≡ w = word_after front tail k w e (h 0 (omega arith)) in
     let size : length (front ++ bytes_of_word w) ≡ suc k * 4 = omega (arith, e, length-append front (bytes_of_word w)) in
     let others : words_in ((front ++ bytes_of_word w) ++ tail) (suc k) (length ws) ≡ ws =
-        words_after ws (front ++ bytes_of_word w) rest (suc k) size (λ i l. h (suc i) (omega arith)) in
+    words_after ws (front ++ bytes_of_word w) rest (suc k) size (λ i l. h (suc i) (omega arith)) in
     let joined : (front ++ bytes_of_word w) ++ tail ≡ front ++ (bytes_of_word w ++ tail) = append_assoc front (bytes_of_word w) tail in
     let there : words_in (front ++ (bytes_of_word w ++ tail)) (suc k) (length ws) ≡ ws =
-        ap (λ bytes. words_in bytes (suc k) (length ws)) (sym joined) ∙ others in
+    ap (λ bytes. words_in bytes (suc k) (length ws)) (sym joined) ∙ others in
     cons_eq first there
 
 -- words that stand after a first one

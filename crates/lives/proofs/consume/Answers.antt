@@ -14,27 +14,27 @@ pub returns-in_default : goal.returns-in_default
 returns-in_default c =
     -- what the source's register holds
     let read : get_or (currents_in c.args.regs.now) c.args.w Unset ≡ c.current_of-current.result =
-        current_read c.args.regs.now c.args.w (rw c.requires.known_in.size (c.requires.w_lt_max_regs c.if-w-ge256.false)) c.current_of-current.ensures in
+    current_read c.args.regs.now c.args.w (rw c.requires.known_in.size (c.requires.w_lt_max_regs c.if-w-ge256.false)) c.current_of-current.ensures in
     rw (lt-ltb _ _ c.if-w-ge256.false, read ∙ c.in_default.is)
 
 pub bounds-ends-k : goal.bounds-ends-k
 bounds-ends-k c =
     -- what the source's register holds
     let read : get_or (currents_in c.args.regs.now) c.args.w Unset ≡ c.current_of-current.result =
-        current_read c.args.regs.now c.args.w (rw c.requires.known_in.size (c.requires.w_lt_max_regs c.if-w-ge256.false)) c.current_of-current.ensures in
+    current_read c.args.regs.now c.args.w (rw c.requires.known_in.size (c.requires.w_lt_max_regs c.if-w-ge256.false)) c.current_of-current.ensures in
     -- the static that the source holds
     let held : get_or (currents_in c.args.regs.now) c.args.w Unset ≡ Static c.in-Static.s =
-        read ∙ c.in-Static.is in
+    read ∙ c.in-Static.is in
     c.requires.known_in.known c.args.w c.in-Static.s held
 
 pub returns : goal.returns
 returns c =
     -- what the source's register holds
     let read : get_or (currents_in c.args.regs.now) c.args.w Unset ≡ c.current_of-current.result =
-        current_read c.args.regs.now c.args.w (rw c.requires.known_in.size (c.requires.w_lt_max_regs c.if-w-ge256.false)) c.current_of-current.ensures in
+    current_read c.args.regs.now c.args.w (rw c.requires.known_in.size (c.requires.w_lt_max_regs c.if-w-ge256.false)) c.current_of-current.ensures in
     -- the static that the source holds
     let held : get_or (currents_in c.args.regs.now) c.args.w Unset ≡ Static c.in-Static.s =
-        read ∙ c.in-Static.is in
+    read ∙ c.in-Static.is in
     rw (lt-ltb _ _ c.if-w-ge256.false, held)
 
 pub bounds-regs-r : goal.bounds-regs-r

@@ -1,6 +1,6 @@
 -- `lives::consume_words` meets its contract: the sources passed have been read.
 -- By one word more of the words from a place on.
-use Prim.Native.Nat.{◌+◌, ◌-◌}
+use Prim.Native.Nat.{◌+◌}
 use mathlib.Core.Path.{◌≡◌, refl, sym, ap, ◌∙◌}
 use native.Mathlib.Omega.{arith}
 use lib.ListN.{length, get_or, take, drop}

@@ -1,6 +1,6 @@
 -- `lives::create` meets its contract: after each record the slice starts with the ends so far.
 -- Beside the renaming that every walk keeps, by the law `ends_next`.
-use Prim.Native.Nat.{ℕ, ◌+◌, ◌*◌, ◌/◌, ◌-◌, ◌≤◌}
+use Prim.Native.Nat.{ℕ, ◌+◌, ◌*◌, ◌/◌, ◌≤◌}
 use mathlib.Core.List.{List}
 use mathlib.Core.Path.{◌≡◌, refl, ap, ◌∙◌}
 use native.Mathlib.Omega.{arith}
@@ -31,19 +31,19 @@ record_at-rec-requires c = omega arith
 pub overflow_cast-i : goal.overflow_cast-i
 overflow_cast-i c =
     let words_few : length c.args.list.now ≤ 524288 =
-        few_words c.args.list.now c.requires.passes c.loop-i.i c.loop-i-test.true in
+    few_words c.args.list.now c.requires.passes c.loop-i.i c.loop-i-test.true in
     omega (arith, c.loop-i-test.true, words_few)
 
 pub consume_sources-requires : goal.consume_sources-requires
 consume_sources-requires c =
     -- the slice is as long as it was
     let same : c.loop-i.i ≤ length c.args.list.now / 8 → length c.loop-i.ends ≡ length c.args.ends.now =
-        λ h. let list = c.args.list.now in
+    λ h. let list = c.args.list.now in
     let i = c.loop-i.i in
     let fits : length (ends_to c.args.list.now c.loop-i.i) ≤ length c.args.ends.now = rw (ends_length c.args.list.now c.loop-i.i) (omega (arith, statics_two c.args.list.now c.loop-i.i, c.requires.list_in_bounds)) in
     ap length c.loop-i.invariant.2 ∙ over_length (ends_to c.args.list.now c.loop-i.i) c.args.ends.now fits in
     let statics_few : c.loop-i.statics + 2 ≤ (length c.args.list.now / 8) * 2 =
-        few_statics c.args.list.now c.requires.passes c.loop-i.i c.loop-i-test.true c.loop-i.invariant.1 in
+    few_statics c.args.list.now c.requires.passes c.loop-i.i c.loop-i-test.true c.loop-i.invariant.1 in
     let inv = c.loop-i.invariant in
     record {
       rec_value = gens_fit_lem c.args.list.now c.requires.passes c.loop-i.i c.loop-i-test.true c.record_at-rec.ensures;
@@ -53,35 +53,35 @@ consume_sources-requires c =
 pub overflow_cast-i-in-loop-i : goal.overflow_cast-i-in-loop-i
 overflow_cast-i-in-loop-i c =
     let words_few : length c.args.list.now ≤ 524288 =
-        few_words c.args.list.now c.requires.passes c.loop-i.i c.loop-i-test.true in
+    few_words c.args.list.now c.requires.passes c.loop-i.i c.loop-i-test.true in
     omega (arith, c.loop-i-test.true, words_few)
 
 pub overflow_cast-statics : goal.overflow_cast-statics
 overflow_cast-statics c =
     let words_few : length c.args.list.now ≤ 524288 =
-        few_words c.args.list.now c.requires.passes c.loop-i.i c.loop-i-test.true in
+    few_words c.args.list.now c.requires.passes c.loop-i.i c.loop-i-test.true in
     let statics_few : c.loop-i.statics + 2 ≤ (length c.args.list.now / 8) * 2 =
-        few_statics c.args.list.now c.requires.passes c.loop-i.i c.loop-i-test.true c.loop-i.invariant.1 in
+    few_statics c.args.list.now c.requires.passes c.loop-i.i c.loop-i-test.true c.loop-i.invariant.1 in
     omega (arith, statics_few, words_few)
 
 pub create_statics-requires : goal.create_statics-requires
 create_statics-requires c =
     -- the slice is as long as it was
     let same : c.loop-i.i ≤ length c.args.list.now / 8 → length c.loop-i.ends ≡ length c.args.ends.now =
-        λ h. let list = c.args.list.now in
+    λ h. let list = c.args.list.now in
     let i = c.loop-i.i in
     let fits : length (ends_to c.args.list.now c.loop-i.i) ≤ length c.args.ends.now = rw (ends_length c.args.list.now c.loop-i.i) (omega (arith, statics_two c.args.list.now c.loop-i.i, c.requires.list_in_bounds)) in
     ap length c.loop-i.invariant.2 ∙ over_length (ends_to c.args.list.now c.loop-i.i) c.args.ends.now fits in
     let statics_few : c.loop-i.statics + 2 ≤ (length c.args.list.now / 8) * 2 =
-        few_statics c.args.list.now c.requires.passes c.loop-i.i c.loop-i-test.true c.loop-i.invariant.1 in
+    few_statics c.args.list.now c.requires.passes c.loop-i.i c.loop-i-test.true c.loop-i.invariant.1 in
     omega (arith, statics_few, c.requires.list_in_bounds, same c.loop-i.invariant.0, c.consume_sources.auto.ends)
 
 pub rename-requires : goal.rename-requires
 rename-requires c =
     let words_few : length c.args.list.now ≤ 524288 =
-        few_words c.args.list.now c.requires.passes c.loop-i.i c.loop-i-test.true in
+    few_words c.args.list.now c.requires.passes c.loop-i.i c.loop-i-test.true in
     let statics_few : c.loop-i.statics + 2 ≤ (length c.args.list.now / 8) * 2 =
-        few_statics c.args.list.now c.requires.passes c.loop-i.i c.loop-i-test.true c.loop-i.invariant.1 in
+    few_statics c.args.list.now c.requires.passes c.loop-i.i c.loop-i-test.true c.loop-i.invariant.1 in
     record {
       rec_value = gens_fit_lem c.args.list.now c.requires.passes c.loop-i.i c.loop-i-test.true c.record_at-rec.ensures;
       next_bound = omega (arith, statics_few, words_few);
@@ -93,9 +93,9 @@ count_statics-statics-requires c = search rules
 pub overflow_add-statics : goal.overflow_add-statics
 overflow_add-statics c =
     let words_few : length c.args.list.now ≤ 524288 =
-        few_words c.args.list.now c.requires.passes c.loop-i.i c.loop-i-test.true in
+    few_words c.args.list.now c.requires.passes c.loop-i.i c.loop-i-test.true in
     let statics_few : c.loop-i.statics + 2 ≤ (length c.args.list.now / 8) * 2 =
-        few_statics c.args.list.now c.requires.passes c.loop-i.i c.loop-i-test.true c.loop-i.invariant.1 in
+    few_statics c.args.list.now c.requires.passes c.loop-i.i c.loop-i-test.true c.loop-i.invariant.1 in
     rw c.count_statics-statics.ensures (omega (arith, statics_few, words_few, gens_two c.record_at-rec.result))
 
 pub overflow_add-i : goal.overflow_add-i
@@ -112,7 +112,7 @@ ends-turn {list} {i} e w held h = rw (e, w.regs_are, w.statics_are) (ends_next l
 pub loop-i-preserved : goal.loop-i-preserved
 loop-i-preserved c =
     let statics_few : c.loop-i.statics + 2 ≤ (length c.args.list.now / 8) * 2 =
-        few_statics c.args.list.now c.requires.passes c.loop-i.i c.loop-i-test.true c.loop-i.invariant.1 in
+    few_statics c.args.list.now c.requires.passes c.loop-i.i c.loop-i-test.true c.loop-i.invariant.1 in
     let w = c.loop-i.invariant.1 in
     let e = c.record_at-rec.ensures in
     let read = c.consume_sources.ensures ∙ ap (consumed (currents_in c.loop-i.regs) c.loop-i.i (sources c.record_at-rec.result)) c.loop-i.invariant.2 in
@@ -130,7 +130,7 @@ pub shape_of-ends : goal.shape_of-ends
 shape_of-ends c =
     -- the slice is as long as it was
     let same : c.loop-i.i ≤ length c.args.list.now / 8 → length c.loop-i.ends ≡ length c.args.ends.now =
-        λ h. let list = c.args.list.now in
+    λ h. let list = c.args.list.now in
     let i = c.loop-i.i in
     let fits : length (ends_to c.args.list.now c.loop-i.i) ≤ length c.args.ends.now = rw (ends_length c.args.list.now c.loop-i.i) (omega (arith, statics_two c.args.list.now c.loop-i.i, c.requires.list_in_bounds)) in
     ap length c.loop-i.invariant.2 ∙ over_length (ends_to c.args.list.now c.loop-i.i) c.args.ends.now fits in

@@ -51,7 +51,7 @@ pub returns-in-One : goal.returns-in-One
 unfolding created
 returns-in-One c =
     let one : dests c.args.rec ≡ c.in-One.x ∷ [] =
-        dests_told c.dests_of.ensures c.in-One.is in
+    dests_told c.dests_of.ensures c.in-One.is in
     rw one c.create_static.ensures
 
 pub shape_of-ends-in-Two : goal.shape_of-ends-in-Two
@@ -61,5 +61,5 @@ pub returns-in-Two : goal.returns-in-Two
 unfolding created
 returns-in-Two c =
     let two : dests c.args.rec ≡ c.in-Two.x ∷ c.in-Two.y ∷ [] =
-        dests_told c.dests_of.ensures c.in-Two.is in
+    dests_told c.dests_of.ensures c.in-Two.is in
     rw (two, ← c.create_static-in-Two.ensures, ← c.count_static.ensures) c.create_static-in-Two-2.ensures

@@ -51,7 +51,7 @@ unfolding few_args few_registers refusal
 returns-in-Passed c =
     -- questions 1 to 4 are answered with yes: what is left is the records' and the branches' answer
     let first_four : refusal c.args.room c.args.settings c.args.list.now c.args.table.now ≡ or_else (record_refusal c.args.table.now c.args.settings.count_regs c.args.list.now) (branch_refusal c.args.list.now) =
-        simp (
+    simp (
       le-leb _ _ c.if-settings-gt-MAX_REGS.false,
       le-leb _ _ c.if-settings-gt65535.false,
       answered_yes c.well_sized.ensures c.if-not-well_sized.false-raw,
@@ -64,7 +64,7 @@ unfolding few_args few_registers refusal
 returns-in-Refused c =
     -- questions 1 to 4 are answered with yes: what is left is the records' and the branches' answer
     let first_four : refusal c.args.room c.args.settings c.args.list.now c.args.table.now ≡ or_else (record_refusal c.args.table.now c.args.settings.count_regs c.args.list.now) (branch_refusal c.args.list.now) =
-        simp (
+    simp (
       le-leb _ _ c.if-settings-gt-MAX_REGS.false,
       le-leb _ _ c.if-settings-gt65535.false,
       answered_yes c.well_sized.ensures c.if-not-well_sized.false-raw,

@@ -19,28 +19,28 @@ pub returns-in-Reduced : goal.returns-in-Reduced
 returns-in-Reduced c =
     -- what the call was given
     let settings : Settings =
-        settings_of c.args.count_regs c.args.args c.args.complex c.args.arm c.args.compress in
+    settings_of c.args.count_regs c.args.args c.args.complex c.args.arm c.args.compress in
     let held : Lent =
-        lent c.args.out.now c.args.colours.now c.args.ends.now c.args.set.now in
+    lent c.args.out.now c.args.colours.now c.args.ends.now c.args.set.now in
     let now_held : Lent =
-        lent c.optimize.new.out c.optimize.new.colours c.optimize.new.ends c.optimize.new.set in
+    lent c.optimize.new.out c.optimize.new.colours c.optimize.new.ends c.optimize.new.set in
     let promised : Optimized settings c.args.list.now c.args.table.now held now_held c.optimize.result =
-        rw c.settings_of-settings.ensures at c.optimize.ensures in
+    rw c.settings_of-settings.ensures at c.optimize.ensures in
     let room : 7 ≤ length c.args.counts.now =
-        c.if-counts-lt7.false in
+    c.if-counts-lt7.false in
     entry_answered room promised c.in-Reduced.is c.write_counts.ensures
 
 pub returns-in-Refused : goal.returns-in-Refused
 returns-in-Refused c =
     -- what the call was given
     let settings : Settings =
-        settings_of c.args.count_regs c.args.args c.args.complex c.args.arm c.args.compress in
+    settings_of c.args.count_regs c.args.args c.args.complex c.args.arm c.args.compress in
     let held : Lent =
-        lent c.args.out.now c.args.colours.now c.args.ends.now c.args.set.now in
+    lent c.args.out.now c.args.colours.now c.args.ends.now c.args.set.now in
     let now_held : Lent =
-        lent c.optimize.new.out c.optimize.new.colours c.optimize.new.ends c.optimize.new.set in
+    lent c.optimize.new.out c.optimize.new.colours c.optimize.new.ends c.optimize.new.set in
     let promised : Optimized settings c.args.list.now c.args.table.now held now_held c.optimize.result =
-        rw c.settings_of-settings.ensures at c.optimize.ensures in
+    rw c.settings_of-settings.ensures at c.optimize.ensures in
     let room : 7 ≤ length c.args.counts.now =
-        c.if-counts-lt7.false in
+    c.if-counts-lt7.false in
     rw c.refusal_word.ensures (entry_answered room promised c.in-Refused.is refl)

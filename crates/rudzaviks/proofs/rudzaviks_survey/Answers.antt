@@ -16,16 +16,16 @@ returns-then-parts-lt4 c =
 pub returns-in-Registers : goal.returns-in-Registers
 returns-in-Registers c =
     let promised : survey_report c.survey.result ≡ survey_of c.args.count_regs (flag c.args.compress) c.args.label c.args.list.now c.args.table.now =
-        rw (c.settings_beside-settings.ensures.0, c.settings_beside-settings.ensures.1) at c.survey.ensures in
+    rw (c.settings_beside-settings.ensures.0, c.settings_beside-settings.ensures.1) at c.survey.ensures in
     let room : 4 ≤ length c.args.parts.now =
-        c.if-parts-lt4.false in
+    c.if-parts-lt4.false in
     let words = rw c.place_word-index.ensures at c.write_parts.ensures in
     rw c.place_word-index.ensures (survey_answered room promised c.in-Registers.is words)
 
 pub returns-in-Refused : goal.returns-in-Refused
 returns-in-Refused c =
     let promised : survey_report c.survey.result ≡ survey_of c.args.count_regs (flag c.args.compress) c.args.label c.args.list.now c.args.table.now =
-        rw (c.settings_beside-settings.ensures.0, c.settings_beside-settings.ensures.1) at c.survey.ensures in
+    rw (c.settings_beside-settings.ensures.0, c.settings_beside-settings.ensures.1) at c.survey.ensures in
     let room : 4 ≤ length c.args.parts.now =
-        c.if-parts-lt4.false in
+    c.if-parts-lt4.false in
     rw c.refusal_word.ensures (survey_answered room promised c.in-Refused.is refl)

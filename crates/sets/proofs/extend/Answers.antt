@@ -1,6 +1,5 @@
 -- `sets::extend` meets its contract: the pairs passed have joined.
 -- By the laws of pairs; more pairs leave no fewer members, so the room for all is room for each.
-use Prim.Native.Nat.{◌-◌}
 use mathlib.Core.List.{List}
 use mathlib.Core.Path.{◌≡◌, refl, subst, ◌∙◌}
 use native.Mathlib.Omega.{arith}
@@ -20,7 +19,7 @@ pub insert-m-requires : goal.insert-m-requires
 insert-m-requires c =
     -- the members at first
     let base : List Loc =
-        pairs_from c.args.set.now 0 c.args.members in
+    pairs_from c.args.set.now 0 c.args.members in
     let e = c.loc_at-l.ensures in
     let inv = c.loop-j.invariant.1 in
     let more = c.loop-j-test.true in
@@ -34,7 +33,7 @@ pub loop-j-preserved : goal.loop-j-preserved
 loop-j-preserved c =
     -- the members at first
     let base : List Loc =
-        pairs_from c.args.set.now 0 c.args.members in
+    pairs_from c.args.set.now 0 c.args.members in
     let e = c.loc_at-l.ensures in
     let t = c.args.table.now in
     let inv = c.loop-j.invariant.1 in

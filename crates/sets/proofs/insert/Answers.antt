@@ -15,7 +15,7 @@ use Rattle.sets.proofs.insert.Goals as goal
 pub returns-then-contains : goal.returns-then-contains
 returns-then-contains c =
     let members : List Loc =
-        pairs_from c.args.set.now 0 c.args.members in
+    pairs_from c.args.set.now 0 c.args.members in
     let e = sym c.contains.ensures ∙ c.if-contains.true in
     let old = insert_old c.args.set.now c.args.members c.requires.members_in_bounds c.args.l e in
     record {
@@ -27,36 +27,36 @@ returns-then-contains c =
 pub bounds-set-members : goal.bounds-set-members
 bounds-set-members c =
     let members : List Loc =
-        pairs_from c.args.set.now 0 c.args.members in
+    pairs_from c.args.set.now 0 c.args.members in
     let new : is_member c.args.l members ≡ false =
-        sym c.contains.ensures ∙ c.if-contains.false in
+    sym c.contains.ensures ∙ c.if-contains.false in
     -- the slice has room for it
     let room : c.args.members * 2 + 2 ≤ length c.args.set.now =
-        omega (arith, insert_count c.args.set.now c.args.members c.requires.members_in_bounds c.args.l new, c.requires.l_in_bounds) in
+    omega (arith, insert_count c.args.set.now c.args.members c.requires.members_in_bounds c.args.l new, c.requires.l_in_bounds) in
     let r = room in
     omega (arith, r)
 
 pub bounds-set-members-2 : goal.bounds-set-members-2
 bounds-set-members-2 c =
     let members : List Loc =
-        pairs_from c.args.set.now 0 c.args.members in
+    pairs_from c.args.set.now 0 c.args.members in
     let new : is_member c.args.l members ≡ false =
-        sym c.contains.ensures ∙ c.if-contains.false in
+    sym c.contains.ensures ∙ c.if-contains.false in
     -- the slice has room for it
     let room : c.args.members * 2 + 2 ≤ length c.args.set.now =
-        omega (arith, insert_count c.args.set.now c.args.members c.requires.members_in_bounds c.args.l new, c.requires.l_in_bounds) in
+    omega (arith, insert_count c.args.set.now c.args.members c.requires.members_in_bounds c.args.l new, c.requires.l_in_bounds) in
     let r = room in
     rw length-set (omega (arith, r))
 
 pub returns : goal.returns
 returns c =
     let members : List Loc =
-        pairs_from c.args.set.now 0 c.args.members in
+    pairs_from c.args.set.now 0 c.args.members in
     let new : is_member c.args.l members ≡ false =
-        sym c.contains.ensures ∙ c.if-contains.false in
+    sym c.contains.ensures ∙ c.if-contains.false in
     -- the slice has room for it
     let room : c.args.members * 2 + 2 ≤ length c.args.set.now =
-        omega (arith, insert_count c.args.set.now c.args.members c.requires.members_in_bounds c.args.l new, c.requires.l_in_bounds) in
+    omega (arith, insert_count c.args.set.now c.args.members c.requires.members_in_bounds c.args.l new, c.requires.l_in_bounds) in
     let t = c.args.set.now in
     let n = c.args.members in
     record {

@@ -8,19 +8,19 @@ use Rattle.sets.proofs.note.Goals as goal
 pub cell-requires : goal.cell-requires
 cell-requires c =
     let near : is_near c.args.l ≡ true =
-        sym c.is_near.ensures ∙ c.if-is_near.true in
+    sym c.is_near.ensures ∙ c.if-is_near.true in
     near
 
 pub set_bit-requires : goal.set_bit-requires
 set_bit-requires c =
     let near : is_near c.args.l ≡ true =
-        sym c.is_near.ensures ∙ c.if-is_near.true in
+    sym c.is_near.ensures ∙ c.if-is_near.true in
     rw c.cell.ensures (word_in c.args.l near c.args.seen.now c.requires)
 
 pub returns-then-is_near : goal.returns-then-is_near
 returns-then-is_near c =
     let near : is_near c.args.l ≡ true =
-        sym c.is_near.ensures ∙ c.if-is_near.true in
+    sym c.is_near.ensures ∙ c.if-is_near.true in
     c.set_bit.ensures ∙ rw (c.cell.ensures, near) refl
 
 pub returns-else-is_near : goal.returns-else-is_near

@@ -1,6 +1,5 @@
 -- `sets::scan` meets its contract: no pair passed is the location.
 -- By the laws of pairs.
-use Prim.Native.Nat.{◌-◌}
 use mathlib.Core.Bool.{true, false}
 use mathlib.Core.Path.{◌≡◌, sym, ap, ◌∙◌}
 use native.Mathlib.Omega.{arith}

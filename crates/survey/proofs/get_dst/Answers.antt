@@ -22,13 +22,13 @@ bit-requires c =
 pub bit-requires-in-One : goal.bit-requires-in-One
 bit-requires-in-One c =
     let one : dests c.args.rec ≡ c.in-One.x ∷ [] =
-        dests_told c.dests_of.ensures c.in-One.is in
+    dests_told c.dests_of.ensures c.in-One.is in
     dest_below max_regs _ c.requires one
 
 pub two_bits-requires : goal.two_bits-requires
 two_bits-requires c =
     let two : dests c.args.rec ≡ c.in-Two.x ∷ c.in-Two.y ∷ [] =
-        dests_told c.dests_of.ensures c.in-Two.is in
+    dests_told c.dests_of.ensures c.in-Two.is in
     let below = dests_below max_regs _ c.requires two in
     record { x_lt_max_regs = below.0; y_lt_max_regs = below.1 }
 
@@ -45,11 +45,11 @@ returns-in-Nothing c =
 pub returns-in-One : goal.returns-in-One
 returns-in-One c =
     let one : dests c.args.rec ≡ c.in-One.x ∷ [] =
-        dests_told c.dests_of.ensures c.in-One.is in
+    dests_told c.dests_of.ensures c.in-One.is in
     rw (counts_dests c.args.rec (search rules), one) c.bit-in-One.ensures
 
 pub returns-in-Two : goal.returns-in-Two
 returns-in-Two c =
     let two : dests c.args.rec ≡ c.in-Two.x ∷ c.in-Two.y ∷ [] =
-        dests_told c.dests_of.ensures c.in-Two.is in
+    dests_told c.dests_of.ensures c.in-Two.is in
     rw (counts_dests c.args.rec (search rules), two) c.two_bits.ensures

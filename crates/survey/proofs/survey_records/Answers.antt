@@ -1,7 +1,6 @@
 -- `survey::survey_records` meets its contract: no record passed is refused, and the first no decides; the mask is that of the records
 -- passed, and the place is the last Label's among them.
 -- By the laws of a walk that stops at the first refusal.
-use Prim.Native.Nat.{◌-◌}
 use mathlib.Core.Path.{◌≡◌, refl, sym, ◌∙◌}
 use native.Mathlib.Numerals.{add-one}
 use native.Mathlib.Omega.{arith}
@@ -26,14 +25,14 @@ unfolding shape_refusal
 returns-then-by-ne0 c =
     -- what the record is refused by is the definition's number for it
     let by_is : c.check_shape-by.result ≡ shape_by c.args.table.now c.args.settings.count_regs c.args.list.now c.loop-i.i =
-        rw (← c.record_at-rec.ensures) c.check_shape-by.ensures in
+    rw (← c.record_at-rec.ensures) c.check_shape-by.ensures in
     rw (← (unrefused_stops c.loop-i.invariant.0 c.loop-i-test.true by_is c.if-by-ne0.true))
 
 pub get_dst-mask-requires : goal.get_dst-mask-requires
 get_dst-mask-requires c =
     -- what the record is refused by is the definition's number for it
     let by_is : c.check_shape-by.result ≡ shape_by c.args.table.now c.args.settings.count_regs c.args.list.now c.loop-i.i =
-        rw (← c.record_at-rec.ensures) c.check_shape-by.ensures in
+    rw (← c.record_at-rec.ensures) c.check_shape-by.ensures in
     let p = shape_passes _ _ _ (sym by_is ∙ c.if-by-ne0.false) in
     rw c.record_at-rec.ensures (gens_fit_more _ max_regs _ c.requires.count_regs_bound p.gens)
 
@@ -42,7 +41,7 @@ unfolding mask_to last_below
 loop-i-preserved c =
     -- what the record is refused by is the definition's number for it
     let by_is : c.check_shape-by.result ≡ shape_by c.args.table.now c.args.settings.count_regs c.args.list.now c.loop-i.i =
-        rw (← c.record_at-rec.ensures) c.check_shape-by.ensures in
+    rw (← c.record_at-rec.ensures) c.check_shape-by.ensures in
     let inv = c.loop-i.invariant in
     let rec = c.record_at-rec.ensures in (
       unrefused_more inv.0 c.loop-i-test.true by_is c.if-by-ne0.false,
@@ -65,12 +64,12 @@ pub overflow_cast-result : goal.overflow_cast-result
 overflow_cast-result c =
     -- a record's index is a word
     let index_fits : Fits w32 c.loop-i.i =
-        omega (arith, well_sized_lem _ _ c.requires.table_value, c.loop-i.invariant.0) in
+    omega (arith, well_sized_lem _ _ c.requires.table_value, c.loop-i.invariant.0) in
     index_fits
 
 pub overflow_cast-i : goal.overflow_cast-i
 overflow_cast-i c =
     -- a record's index is a word
     let index_fits : Fits w32 c.loop-i.i =
-        omega (arith, well_sized_lem _ _ c.requires.table_value, c.loop-i.invariant.0) in
+    omega (arith, well_sized_lem _ _ c.requires.table_value, c.loop-i.invariant.0) in
     index_fits

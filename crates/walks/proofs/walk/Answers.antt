@@ -8,14 +8,13 @@ use Rattle.sets.proofs.Pairs.{set_members}
 use Rattle.walks.proofs.Walks.{starts, colored, counts_are, few_colours, few_in_set, ends_last}
 use Rattle.passes.specs.Create.{ends_of}
 use lib.ListN.{length}
-use borrow.Author.Rules.{rules}
 use Rattle.walks.proofs.walk.Goals as goal
 
 pub create-requires : goal.create-requires
 create-requires c =
     -- the lent slices are long enough
     let roomy_in : Roomy (length c.args.list.now) (length c.args.table.now) (length c.args.out.now) (length c.args.colours.now) (length c.args.ends.now) (length c.args.set.now) =
-        c.requires.roomy in
+    c.requires.roomy in
     record {
       passes = (c.args.settings, c.args.table.now, c.requires.passing);
       list_in_bounds = roomy_in.for_ends;
@@ -25,7 +24,7 @@ pub color-sizes-requires : goal.color-sizes-requires
 color-sizes-requires c =
     -- the lent slices are long enough
     let roomy_in : Roomy (length c.args.list.now) (length c.args.table.now) (length c.args.out.now) (length c.args.colours.now) (length c.args.ends.now) (length c.args.set.now) =
-        c.requires.roomy in
+    c.requires.roomy in
     let r = roomy_in in
     let e = starts (ends_of c.args.list.now) c.args.ends.now c.create.ensures in
     record {
@@ -41,10 +40,10 @@ pub contract-tally-requires : goal.contract-tally-requires
 contract-tally-requires c =
     -- the lent slices are long enough
     let roomy_in : Roomy (length c.args.list.now) (length c.args.table.now) (length c.args.out.now) (length c.args.colours.now) (length c.args.ends.now) (length c.args.set.now) =
-        c.requires.roomy in
+    c.requires.roomy in
     -- what the third walk left
     let left_colored : Colored c.args.settings c.args.list.now c.args.table.now c.color-sizes.new.colours c.color-sizes.new.ends c.color-sizes.new.set c.color-sizes.result.members =
-        let r = roomy_in in
+    let r = roomy_in in
     colored c.args.settings c.args.list.now c.args.table.now c.requires.passing
     c.args.colours.now c.create.new.ends c.args.set.now
     (omega (arith, r.for_colours, c.color-sizes.auto.colours)) (omega (arith, r.for_ends, c.color-sizes.auto.ends, c.create.auto.ends))
@@ -57,11 +56,10 @@ contract-tally-requires c =
     }
 
 pub counts_of-requires : goal.counts_of-requires
-counts_of-requires c =
-    (
-      rw c.color-sizes.ensures.statics (few_colours c.args.settings c.args.list.now c.args.table.now c.requires.passing),
-      rw c.color-sizes.ensures.members (few_in_set c.args.settings c.args.list.now c.args.table.now c.requires.passing),
-    )
+counts_of-requires c = (
+  rw c.color-sizes.ensures.statics (few_colours c.args.settings c.args.list.now c.args.table.now c.requires.passing),
+  rw c.color-sizes.ensures.members (few_in_set c.args.settings c.args.list.now c.args.table.now c.requires.passing),
+)
 
 pub shape_of-ends : goal.shape_of-ends
 shape_of-ends c =
@@ -71,10 +69,10 @@ pub returns : goal.returns
 returns c =
     -- the lent slices are long enough
     let roomy_in : Roomy (length c.args.list.now) (length c.args.table.now) (length c.args.out.now) (length c.args.colours.now) (length c.args.ends.now) (length c.args.set.now) =
-        c.requires.roomy in
+    c.requires.roomy in
     -- what the third walk left
     let left_colored : Colored c.args.settings c.args.list.now c.args.table.now c.color-sizes.new.colours c.color-sizes.new.ends c.color-sizes.new.set c.color-sizes.result.members =
-        let r = roomy_in in
+    let r = roomy_in in
     colored c.args.settings c.args.list.now c.args.table.now c.requires.passing
     c.args.colours.now c.create.new.ends c.args.set.now
     (omega (arith, r.for_colours, c.color-sizes.auto.colours)) (omega (arith, r.for_ends, c.color-sizes.auto.ends, c.create.auto.ends))

@@ -1,6 +1,6 @@
 -- `colours::allocs::clear` meets its contract: the colours passed are without the location, and those past the count hold none.
 -- By the laws of a list that is changed element by element.
-use Prim.Native.Nat.{◌-◌, ◌<◌}
+use Prim.Native.Nat.{◌<◌}
 use mathlib.Core.Path.{◌≡◌, ap, ◌∙◌}
 use native.Mathlib.Omega.{arith}
 use lib.ListN.{length, set}

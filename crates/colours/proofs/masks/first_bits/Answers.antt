@@ -12,7 +12,7 @@ pub overflow_sub-result : goal.overflow_sub-result
 overflow_sub-result c =
     -- the shift, where it is less than the width
     let shifted : let n = c.args.n in 1 * 2 ^ n % 2 ^ max_regs ≡ 2 ^ n =
-        bit_is max_regs c.args.n (omega (arith, c.if-n-eq64.false)) in
+    bit_is max_regs c.args.n (omega (arith, c.if-n-eq64.false)) in
     rw shifted (pow_pos c.args.n)
 
 pub returns-then-n-eq64 : goal.returns-then-n-eq64
@@ -22,5 +22,5 @@ pub returns-else-n-eq64 : goal.returns-else-n-eq64
 returns-else-n-eq64 c j =
     -- the shift, where it is less than the width
     let shifted : let n = c.args.n in 1 * 2 ^ n % 2 ^ max_regs ≡ 2 ^ n =
-        bit_is max_regs c.args.n (omega (arith, c.if-n-eq64.false)) in
+    bit_is max_regs c.args.n (omega (arith, c.if-n-eq64.false)) in
     rw shifted (has_ones c.args.n j)

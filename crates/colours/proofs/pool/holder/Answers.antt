@@ -1,6 +1,5 @@
 -- `colours::pool::holder` meets its contract: no colour passed has the word.
 -- By the laws of `first_below`.
-use Prim.Native.Nat.{◌-◌}
 use mathlib.Core.Path.{◌≡◌, sym}
 use native.Mathlib.Omega.{arith}
 use borrow.Author.Tests.{eq-eqb, ne_eqb}

@@ -10,7 +10,7 @@ pub returns : goal.returns
 returns c =
     -- the second word read is the count of records
     let records : c.word_at-records.result ≡ record_count c.args.file.now =
-        cc in
+    cc in
     let p = c.word_at-pairs.ensures in
     let r = records in
     rw (p, r) (layout_good _ (omega arith) (omega arith) (omega arith))
@@ -31,12 +31,12 @@ pub returns-then-records-gt512 : goal.returns-then-records-gt512
 returns-then-records-gt512 c =
     -- the second word read is the count of records
     let records : c.word_at-records.result ≡ record_count c.args.file.now =
-        cc in
+    cc in
     layout_bad _ (λ s. omega (arith, records))
 
 pub returns-then-len-at-2 : goal.returns-then-len-at-2
 returns-then-len-at-2 c =
     -- the second word read is the count of records
     let records : c.word_at-records.result ≡ record_count c.args.file.now =
-        cc in
+    cc in
     layout_bad _ (λ s. omega (arith, records))

@@ -1,6 +1,5 @@
 -- `file::layout::read_words` meets its contract: the slice starts with the words read.
 -- By the law of one word more.
-use Prim.Native.Nat.{◌-◌}
 use mathlib.Core.Path.{◌≡◌, refl, ap, ◌∙◌}
 use native.Mathlib.Omega.{arith}
 use lib.ListN.{length}
@@ -27,7 +26,7 @@ pub bounds-out-j : goal.bounds-out-j
 bounds-out-j c =
     -- the slice is as long as it was
     let same : length c.loop-j.out ≡ length c.args.out.now =
-        let len = words_length c.args.bytes.now c.args.from c.loop-j.j in
+    let len = words_length c.args.bytes.now c.args.from c.loop-j.j in
     ap length c.loop-j.invariant.1 ∙ over_length (words_in c.args.bytes.now c.args.from c.loop-j.j) c.args.out.now (omega arith) in
     omega (arith, same)
 
@@ -35,6 +34,6 @@ pub shape_of-out : goal.shape_of-out
 shape_of-out c =
     -- the slice is as long as it was
     let same : length c.loop-j.out ≡ length c.args.out.now =
-        let len = words_length c.args.bytes.now c.args.from c.loop-j.j in
+    let len = words_length c.args.bytes.now c.args.from c.loop-j.j in
     ap length c.loop-j.invariant.1 ∙ over_length (words_in c.args.bytes.now c.args.from c.loop-j.j) c.args.out.now (omega arith) in
     same

@@ -22,7 +22,7 @@ returns c = refl
 pub overflow_cast-result : goal.overflow_cast-result
 overflow_cast-result c =
     let bytes : Bytes c.args.bytes.now (c.args.k * 4) =
-        let p = c.args.k * 4 in
+    let p = c.args.k * 4 in
     let known = c.shared_slice_known-1.given in
     record { byte-0 = (known p).fits; byte-1 = (known (p + 1)).fits; byte-2 = (known (p + 2)).fits; byte-3 = (known (p + 3)).fits } in
     omega (arith, bytes)
@@ -30,7 +30,7 @@ overflow_cast-result c =
 pub overflow_cast-result-2 : goal.overflow_cast-result-2
 overflow_cast-result-2 c =
     let bytes : Bytes c.args.bytes.now (c.args.k * 4) =
-        let p = c.args.k * 4 in
+    let p = c.args.k * 4 in
     let known = c.shared_slice_known-1.given in
     record { byte-0 = (known p).fits; byte-1 = (known (p + 1)).fits; byte-2 = (known (p + 2)).fits; byte-3 = (known (p + 3)).fits } in
     omega (arith, bytes)
@@ -38,7 +38,7 @@ overflow_cast-result-2 c =
 pub overflow_mul-result : goal.overflow_mul-result
 overflow_mul-result c =
     let bytes : Bytes c.args.bytes.now (c.args.k * 4) =
-        let p = c.args.k * 4 in
+    let p = c.args.k * 4 in
     let known = c.shared_slice_known-1.given in
     record { byte-0 = (known p).fits; byte-1 = (known (p + 1)).fits; byte-2 = (known (p + 2)).fits; byte-3 = (known (p + 3)).fits } in
     omega (arith, bytes)
@@ -46,7 +46,7 @@ overflow_mul-result c =
 pub overflow_add-result-2 : goal.overflow_add-result-2
 overflow_add-result-2 c =
     let bytes : Bytes c.args.bytes.now (c.args.k * 4) =
-        let p = c.args.k * 4 in
+    let p = c.args.k * 4 in
     let known = c.shared_slice_known-1.given in
     record { byte-0 = (known p).fits; byte-1 = (known (p + 1)).fits; byte-2 = (known (p + 2)).fits; byte-3 = (known (p + 3)).fits } in
     omega (arith, bytes)
@@ -54,7 +54,7 @@ overflow_add-result-2 c =
 pub overflow_cast-result-3 : goal.overflow_cast-result-3
 overflow_cast-result-3 c =
     let bytes : Bytes c.args.bytes.now (c.args.k * 4) =
-        let p = c.args.k * 4 in
+    let p = c.args.k * 4 in
     let known = c.shared_slice_known-1.given in
     record { byte-0 = (known p).fits; byte-1 = (known (p + 1)).fits; byte-2 = (known (p + 2)).fits; byte-3 = (known (p + 3)).fits } in
     omega (arith, bytes)
@@ -62,7 +62,7 @@ overflow_cast-result-3 c =
 pub overflow_mul-result-2 : goal.overflow_mul-result-2
 overflow_mul-result-2 c =
     let bytes : Bytes c.args.bytes.now (c.args.k * 4) =
-        let p = c.args.k * 4 in
+    let p = c.args.k * 4 in
     let known = c.shared_slice_known-1.given in
     record { byte-0 = (known p).fits; byte-1 = (known (p + 1)).fits; byte-2 = (known (p + 2)).fits; byte-3 = (known (p + 3)).fits } in
     omega (arith, bytes)
@@ -70,7 +70,7 @@ overflow_mul-result-2 c =
 pub overflow_add-result-4 : goal.overflow_add-result-4
 overflow_add-result-4 c =
     let bytes : Bytes c.args.bytes.now (c.args.k * 4) =
-        let p = c.args.k * 4 in
+    let p = c.args.k * 4 in
     let known = c.shared_slice_known-1.given in
     record { byte-0 = (known p).fits; byte-1 = (known (p + 1)).fits; byte-2 = (known (p + 2)).fits; byte-3 = (known (p + 3)).fits } in
     omega (arith, bytes)
@@ -78,7 +78,7 @@ overflow_add-result-4 c =
 pub overflow_cast-result-4 : goal.overflow_cast-result-4
 overflow_cast-result-4 c =
     let bytes : Bytes c.args.bytes.now (c.args.k * 4) =
-        let p = c.args.k * 4 in
+    let p = c.args.k * 4 in
     let known = c.shared_slice_known-1.given in
     record { byte-0 = (known p).fits; byte-1 = (known (p + 1)).fits; byte-2 = (known (p + 2)).fits; byte-3 = (known (p + 3)).fits } in
     omega (arith, bytes)
@@ -86,7 +86,7 @@ overflow_cast-result-4 c =
 pub overflow_mul-result-3 : goal.overflow_mul-result-3
 overflow_mul-result-3 c =
     let bytes : Bytes c.args.bytes.now (c.args.k * 4) =
-        let p = c.args.k * 4 in
+    let p = c.args.k * 4 in
     let known = c.shared_slice_known-1.given in
     record { byte-0 = (known p).fits; byte-1 = (known (p + 1)).fits; byte-2 = (known (p + 2)).fits; byte-3 = (known (p + 3)).fits } in
     omega (arith, bytes)
@@ -94,7 +94,7 @@ overflow_mul-result-3 c =
 pub overflow_add-result-6 : goal.overflow_add-result-6
 overflow_add-result-6 c =
     let bytes : Bytes c.args.bytes.now (c.args.k * 4) =
-        let p = c.args.k * 4 in
+    let p = c.args.k * 4 in
     let known = c.shared_slice_known-1.given in
     record { byte-0 = (known p).fits; byte-1 = (known (p + 1)).fits; byte-2 = (known (p + 2)).fits; byte-3 = (known (p + 3)).fits } in
     omega (arith, bytes)

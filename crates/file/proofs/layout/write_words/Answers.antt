@@ -1,6 +1,5 @@
 -- `file::layout::write_words` meets its contract: the slice starts with the bytes of the words passed.
 -- By the law of one word more; the loop starts from the slice that the first word is in.
-use Prim.Native.Nat.{◌-◌}
 use mathlib.Core.Path.{◌≡◌, ap, ◌∙◌}
 use mathlib.Core.List.{◌∷◌}
 use native.Mathlib.Omega.{arith}
@@ -29,7 +28,7 @@ pub put_word-requires-in-loop-j : goal.put_word-requires-in-loop-j
 put_word-requires-in-loop-j c =
     -- the slice is as long as it was
     let same : length c.loop-j.out ≡ length c.args.out.now =
-        let len = taken_length c.args.first c.args.words.now c.loop-j.j c.loop-j.invariant.0 in
+    let len = taken_length c.args.first c.args.words.now c.loop-j.j c.loop-j.invariant.0 in
     let kept : length c.put_word.new.out ≡ length c.args.out.now = c.put_word.auto.out in
     ap length c.loop-j.invariant.1 ∙ (over_length (bytes_of (c.args.first ∷ take c.loop-j.j c.args.words.now)) c.put_word.new.out (omega arith) ∙ kept) in
     omega (arith, same)
@@ -38,7 +37,7 @@ pub shape_of-out : goal.shape_of-out
 shape_of-out c =
     -- the slice is as long as it was
     let same : length c.loop-j.out ≡ length c.args.out.now =
-        let len = taken_length c.args.first c.args.words.now c.loop-j.j c.loop-j.invariant.0 in
+    let len = taken_length c.args.first c.args.words.now c.loop-j.j c.loop-j.invariant.0 in
     let kept : length c.put_word.new.out ≡ length c.args.out.now = c.put_word.auto.out in
     ap length c.loop-j.invariant.1 ∙ (over_length (bytes_of (c.args.first ∷ take c.loop-j.j c.args.words.now)) c.put_word.new.out (omega arith) ∙ kept) in
     same

@@ -13,14 +13,14 @@ pub overflow_mul-room : goal.overflow_mul-room
 overflow_mul-room c =
     -- the layout that was found
     let layout_in : layout_of c.args.file.now ≡ Counts c.in-Counts.pairs c.in-Counts.records =
-        sym c.layout_of.ensures ∙ c.in-Counts.is in
+    sym c.layout_of.ensures ∙ c.in-Counts.is in
     omega (arith, sections layout_in)
 
 pub reduce_sections-requires : goal.reduce_sections-requires
 reduce_sections-requires c =
     -- the layout that was found
     let layout_in : layout_of c.args.file.now ≡ Counts c.in-Counts.pairs c.in-Counts.records =
-        sym c.layout_of.ensures ∙ c.in-Counts.is in
+    sym c.layout_of.ensures ∙ c.in-Counts.is in
     record {
       file_value = layout_in;
       records_in_bounds = λ r. leb-true _ _ r;
@@ -30,7 +30,7 @@ pub returns-in-Counts : goal.returns-in-Counts
 returns-in-Counts c =
     -- the layout that was found
     let layout_in : layout_of c.args.file.now ≡ Counts c.in-Counts.pairs c.in-Counts.records =
-        sym c.layout_of.ensures ∙ c.in-Counts.is in
+    sym c.layout_of.ensures ∙ c.in-Counts.is in
     let h = sections layout_in in
     words_promise (rw h.records_are at c.reduce_sections.ensures.answer) (rw h.records_are at c.reduce_sections.ensures.out)
 

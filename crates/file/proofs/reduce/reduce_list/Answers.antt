@@ -11,7 +11,7 @@ use Rattle.file.proofs.reduce.reduce_list.Goals as goal
 pub reduce_in_space-requires : goal.reduce_in_space-requires
 reduce_in_space-requires c =
     let verdict_is : (v : Verdict) → c.check.result ≡ v → refusal c.args.room c.args.settings c.args.list.now c.args.table.now ≡ v =
-        λ v e. sym c.check.ensures ∙ e in
+    λ v e. sym c.check.ensures ∙ e in
     let v = verdict_is _ c.in-Passed.is in
     record {
       list_len_bound = c.requires.list_len_bound;
@@ -23,7 +23,7 @@ reduce_in_space-requires c =
 pub returns-in-Passed : goal.returns-in-Passed
 returns-in-Passed c =
     let verdict_is : (v : Verdict) → c.check.result ≡ v → refusal c.args.room c.args.settings c.args.list.now c.args.table.now ≡ v =
-        λ v e. sym c.check.ensures ∙ e in
+    λ v e. sym c.check.ensures ∙ e in
     let v = verdict_is _ c.in-Passed.is in
     record {
       answer = rw v (ap answered c.reduce_in_space.ensures.counts);
@@ -33,7 +33,7 @@ returns-in-Passed c =
 pub returns-in-Refused : goal.returns-in-Refused
 returns-in-Refused c =
     let verdict_is : (v : Verdict) → c.check.result ≡ v → refusal c.args.room c.args.settings c.args.list.now c.args.table.now ≡ v =
-        λ v e. sym c.check.ensures ∙ e in
+    λ v e. sym c.check.ensures ∙ e in
     let v = verdict_is _ c.in-Refused.is in
     record {
       answer = rw v;

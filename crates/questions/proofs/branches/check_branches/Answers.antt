@@ -1,6 +1,5 @@
 -- `questions::branches::check_branches` meets its contract: no record before a round is refused, and the first branch that is left decides.
 -- By the laws of a walk that stops at the first refusal; what was collected and not struck has no Label.
-use Prim.Native.Nat.{◌-◌}
 use mathlib.Core.Path.{◌≡◌, refl, sym, ◌∙◌, subst}
 use native.Mathlib.Omega.{arith}
 use borrow.Author.Rules.{rules}
@@ -37,7 +36,7 @@ unfolding branch_refusal
 returns-then-bad-until c =
     -- the records before the first branch that is left
     let passed : let list = c.args.list.now in Unrefused (branch_by list) (records list) c.first_left-bad.result =
-        let h = c.first_left-bad.ensures in
+    let h = c.first_left-bad.ensures in
     record { within = omega (arith, h.before, c.collect-until.ensures.within); passed = h.passed } in
     let h = c.first_left-bad.ensures in
     unrefused_stops passed (omega (arith, c.collect-until.ensures.within)) (sym (h.bad c.if-bad-until.true)) (λ e. omega arith)
@@ -46,7 +45,7 @@ pub loop-from-preserved : goal.loop-from-preserved
 loop-from-preserved c =
     -- the records before the first branch that is left
     let passed : let list = c.args.list.now in Unrefused (branch_by list) (records list) c.first_left-bad.result =
-        let h = c.first_left-bad.ensures in
+    let h = c.first_left-bad.ensures in
     record { within = omega (arith, h.before, c.collect-until.ensures.within); passed = h.passed } in
     let list = c.args.list.now in
     let e : c.first_left-bad.result ≡ c.collect-until.result = omega (arith, c.first_left-bad.ensures.before) in

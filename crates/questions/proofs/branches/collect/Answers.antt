@@ -1,6 +1,6 @@
 -- `questions::branches::collect` meets its contract: the branches passed are in the table, and the first always gets in.
 -- By what a number that is put leaves in the table; the first finds the table empty.
-use Prim.Native.Nat.{ℕ, ◌-◌, ◌+◌, ◌*◌, ◌<◌}
+use Prim.Native.Nat.{ℕ, ◌+◌, ◌*◌, ◌<◌}
 use mathlib.Core.Bool.{Bool, true, false}
 use mathlib.Core.List.{List}
 use mathlib.Core.Logic.{⊎_elim}

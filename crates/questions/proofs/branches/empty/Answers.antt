@@ -1,6 +1,6 @@
 -- `questions::branches::empty` meets its contract: slot 0 holds another slot's number eight times, and the other slots hold zeros.
 -- By place: what has been stored, and what is as it was.
-use Prim.Native.Nat.{ℕ, ◌-◌, ◌/◌, ◌<◌}
+use Prim.Native.Nat.{ℕ, ◌/◌, ◌<◌}
 use mathlib.Core.Path.{◌≡◌, sym, ◌∙◌}
 use native.Mathlib.Decide.{dec_lt}
 use native.Mathlib.Omega.{arith}
@@ -14,7 +14,7 @@ use Rattle.questions.proofs.branches.empty.Goals as goal
 pub loop-p-init : goal.loop-p-init
 loop-p-init c =
     let long : length c.args.table.now ≡ 4096 =
-        rw c.requires (length-replicate {A = ℕ} 4096 0) in
+    rw c.requires (length-replicate {A = ℕ} 4096 0) in
     (search rules, long, λ q l. absurd (omega arith), λ q a l. rw c.requires (get_or-replicate {A = ℕ} 4096 q 0 0 l))
 
 pub loop-p-preserved : goal.loop-p-preserved
@@ -43,5 +43,5 @@ returns c p l t = go (dec_lt p 8)
 pub shape_of-table : goal.shape_of-table
 shape_of-table c =
     let long : length c.args.table.now ≡ 4096 =
-        rw c.requires (length-replicate {A = ℕ} 4096 0) in
+    rw c.requires (length-replicate {A = ℕ} 4096 0) in
     c.loop-p.invariant.1 ∙ sym long

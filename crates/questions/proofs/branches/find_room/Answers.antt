@@ -1,6 +1,6 @@
 -- `questions::branches::find_room` meets its contract: the first place that is not taken, or all eight are.
 -- By the places passed.
-use Prim.Native.Nat.{◌-◌, ◌%◌}
+use Prim.Native.Nat.{◌%◌}
 use mathlib.Core.Path.{◌≡◌, sym, ◌∙◌}
 use native.Mathlib.Omega.{arith}
 use borrow.Author.Count.{below_more}

@@ -1,6 +1,5 @@
 -- `questions::branches::first_branch` meets its contract: a record that is no branch is not refused.
 -- By the laws of a walk that stops at the first refusal.
-use Prim.Native.Nat.{◌-◌}
 use mathlib.Core.Path.{◌≡◌, refl, sym}
 use native.Mathlib.Omega.{arith}
 use Rattle.mir.specs.Records.{records}

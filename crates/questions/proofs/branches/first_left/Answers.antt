@@ -1,6 +1,5 @@
 -- `questions::branches::first_left` meets its contract: where no branch is left so far, no record is refused so far.
 -- By the laws of a walk that stops at the first refusal; a branch is refused if it is left.
-use Prim.Native.Nat.{◌-◌}
 use mathlib.Core.Bool.{cond}
 use mathlib.Core.Path.{◌≡◌, refl, sym}
 use native.Mathlib.Omega.{arith}
@@ -17,7 +16,7 @@ pub returns-then-is_left : goal.returns-then-is_left
 returns-then-is_left c =
     -- what the record is refused by, from whether it is left
     let by_is : branch_by c.args.list.now c.loop-i.i ≡ cond c.is_left.result 16 0 =
-        rw c.is_left.ensures
+    rw c.is_left.ensures
     (by_left _ c.loop-i.i c.args.table.now (c.requires.settled c.loop-i.i c.loop-i.invariant.1 c.loop-i-test.true)) in
     record { before = search rules; passed = c.loop-i.invariant.0.passed; bad = λ l. rw c.if-is_left.true at by_is }
 
@@ -25,9 +24,8 @@ pub loop-i-preserved : goal.loop-i-preserved
 loop-i-preserved c =
     -- what the record is refused by, from whether it is left
     let by_is : branch_by c.args.list.now c.loop-i.i ≡ cond c.is_left.result 16 0 =
-        rw c.is_left.ensures
-    (by_left _ c.loop-i.i c.args.table.now (c.requires.settled c.loop-i.i c.loop-i.invariant.1 c.loop-i-test.true)) in
-    (
+    rw c.is_left.ensures
+    (by_left _ c.loop-i.i c.args.table.now (c.requires.settled c.loop-i.i c.loop-i.invariant.1 c.loop-i-test.true)) in (
       unrefused_more c.loop-i.invariant.0 (omega arith) (sym (rw c.if-is_left.false at by_is)) refl,
       search rules,
       search rules,

@@ -1,6 +1,6 @@
 -- `questions::branches::is_in` meets its contract: the number stands at a place of its slot, or at none of the eight.
 -- By the places passed.
-use Prim.Native.Nat.{◌-◌, ◌+◌, ◌*◌}
+use Prim.Native.Nat.{◌+◌, ◌*◌}
 use mathlib.Core.Path.{sym}
 use native.Mathlib.Omega.{arith}
 use borrow.Author.Count.{below_more}

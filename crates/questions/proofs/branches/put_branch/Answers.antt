@@ -15,7 +15,7 @@ returns-in_default c =
 pub returns-then-is_in : goal.returns-then-is_in
 returns-then-is_in c =
     let to : let rec = record_at c.args.list.now c.args.i in (is_branch rec ≡ true) × (label_of rec ≡ c.in-To.number) =
-        goes_to _ c.target_at-target.ensures c.in-To.is in
+    goes_to _ c.target_at-target.ensures c.in-To.is in
     record {
       kept = λ number h. h;
       there = λ done b. rw to.1 (sym c.is_in.ensures ∙ c.if-is_in.true);
@@ -25,7 +25,7 @@ returns-then-is_in c =
 pub returns-then-p-ge-PLACES : goal.returns-then-p-ge-PLACES
 returns-then-p-ge-PLACES c =
     let to : let rec = record_at c.args.list.now c.args.i in (is_branch rec ≡ true) × (label_of rec ≡ c.in-To.number) =
-        goes_to _ c.target_at-target.ensures c.in-To.is in
+    goes_to _ c.target_at-target.ensures c.in-To.is in
     record {
       kept = λ number h. h;
       there = λ done b. cc;
@@ -35,7 +35,7 @@ returns-then-p-ge-PLACES c =
 pub returns : goal.returns
 returns c =
     let to : let rec = record_at c.args.list.now c.args.i in (is_branch rec ≡ true) × (label_of rec ≡ c.in-To.number) =
-        goes_to _ c.target_at-target.ensures c.in-To.is in
+    goes_to _ c.target_at-target.ensures c.in-To.is in
     let room = c.find_room-p.ensures in
     let table = c.args.table.now in
     let len = c.requires.table_len in

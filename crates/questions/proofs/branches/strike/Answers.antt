@@ -1,6 +1,5 @@
 -- `questions::branches::strike` meets its contract: the numbers of the Labels passed have been taken out.
 -- By one Label more.
-use Prim.Native.Nat.{◌-◌}
 use mathlib.Core.Bool.{Bool, true, false, not, ◌&&◌, ◌||◌, and-true}
 use mathlib.Core.Path.{◌≡◌, refl, sym, ◌∙◌}
 use native.Mathlib.Numerals.{add-one}

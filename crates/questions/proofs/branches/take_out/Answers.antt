@@ -1,9 +1,8 @@
 -- `questions::branches::take_out` meets its contract: the number stands at none of the places passed, and other numbers are in as before.
 -- By the law of a store that takes a number out.
-use Prim.Native.Nat.{ℕ, ◌-◌, ◌+◌, ◌*◌, ◌≤◌, ◌<◌}
+use Prim.Native.Nat.{ℕ, ◌+◌, ◌*◌, ◌≤◌, ◌<◌}
 use mathlib.Core.Bool.{and-true, and-false, not, ◌&&◌}
 use mathlib.Core.List.{List}
-use mathlib.Core.Logic.{⊎_elim}
 use mathlib.Core.Path.{◌≡◌, refl, sym, ◌∙◌}
 use native.Mathlib.Decide.{ℕ_discrete}
 use native.Mathlib.Omega.{arith}
@@ -61,7 +60,7 @@ loop-k-preserved c =
     let l = c.loop-k-test.true in (
       search rules,
       elim c.if-table-p.branch [
-        then-table-p w ↦ rw (w.table-is, is) (takes h len l _ (rw is at w.away.ensures) (rw is at w.if-table-p.true))
+        | then-table-p w ↦ rw (w.table-is, is) (takes h len l _ (rw is at w.away.ensures) (rw is at w.if-table-p.true))
         | else-table-p w ↦ rw w.table-is (passes h (rw is at w.if-table-p.false))
       ],
     )

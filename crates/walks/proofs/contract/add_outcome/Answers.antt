@@ -1,5 +1,4 @@
 -- `walks::contract::add_outcome` meets its contract: by what becomes of the record.
-use borrow.Author.Rules.{rules}
 use Rattle.walks.proofs.contract.add_outcome.Goals as goal
 
 pub returns-in-Kept : goal.returns-in-Kept

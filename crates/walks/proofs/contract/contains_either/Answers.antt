@@ -2,7 +2,6 @@
 use mathlib.Core.Path.{sym, ◌∙◌, ap}
 use Rattle.passes.specs.declared.symbol.Loc.{Loc}
 use Rattle.passes.specs.Color.{is_member, pairs_from}
-use borrow.Author.Rules.{rules}
 use Rattle.walks.proofs.contract.contains_either.Goals as goal
 
 pub returns-then-contains : goal.returns-then-contains

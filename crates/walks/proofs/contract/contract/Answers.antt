@@ -1,6 +1,6 @@
 -- `walks::contract::contract` meets its contract: before each record the output, the ends and the counts are the
 -- definitions', by what `Contracting` says of a record.
-use Prim.Native.Nat.{ℕ, ◌+◌, ◌*◌, ◌/◌, ◌-◌, ◌≤◌}
+use Prim.Native.Nat.{ℕ, ◌+◌, ◌*◌, ◌/◌, ◌≤◌}
 use mathlib.Core.List.{List}
 use native.Mathlib.Omega.{arith}
 use lib.ListN.{length}
@@ -17,7 +17,7 @@ pub loop-i-init : goal.loop-i-init
 loop-i-init c =
     -- what the walk was called with, for any settings and table that the third walk's slices are of
     let called : (s : Settings) → (table : List ℕ) → Colored s c.args.list.now table c.args.colours.now c.args.ends.now c.args.locs.now c.args.members → Call =
-        λ s table col. record {
+    λ s table col. record {
       settings = s;
       list = c.args.list.now;
       table = table;
@@ -40,18 +40,18 @@ pub overflow_cast-first : goal.overflow_cast-first
 overflow_cast-first c =
     -- the list passes
     let listed : Passes c.args.list.now =
-        (c.args.settings, c.requires.by_index.0, c.requires.by_index.1.passing) in
+    (c.args.settings, c.requires.by_index.0, c.requires.by_index.1.passing) in
     let words_few : length c.args.list.now ≤ 524288 =
-        few_words c.args.list.now listed c.loop-i.i c.loop-i-test.true in
+    few_words c.args.list.now listed c.loop-i.i c.loop-i-test.true in
     let statics_few : c.loop-i.statics + 2 ≤ (length c.args.list.now / 8) * 2 =
-        few_statics c.args.list.now listed c.loop-i.i c.loop-i-test.true c.loop-i.invariant.1.0 in
+    few_statics c.args.list.now listed c.loop-i.i c.loop-i-test.true c.loop-i.invariant.1.0 in
     omega (arith, statics_few, words_few)
 
 pub contract_record-added-requires : goal.contract_record-added-requires
 contract_record-added-requires c =
     -- what the walk was called with, for any settings and table that the third walk's slices are of
     let called : (s : Settings) → (table : List ℕ) → Colored s c.args.list.now table c.args.colours.now c.args.ends.now c.args.locs.now c.args.members → Call =
-        λ s table col. record {
+    λ s table col. record {
       settings = s;
       list = c.args.list.now;
       table = table;
@@ -65,10 +65,10 @@ contract_record-added-requires c =
     } in
     -- and for its own
     let own : Call =
-        called c.args.settings c.requires.by_index.0 c.requires.by_index.1 in
+    called c.args.settings c.requires.by_index.0 c.requires.by_index.1 in
     -- what the loop keeps, of the walk's own settings and table
     let kept : let g = own in Contracting g.settings g.list g.table g.ends g.out c.loop-i.i c.loop-i.ends c.loop-i.out c.loop-i.tally =
-        c.loop-i.invariant.1.1 c.args.settings c.requires.by_index.0 c.fixed-fixed.ensures c.requires.by_index.1 in
+    c.loop-i.invariant.1.1 c.args.settings c.requires.by_index.0 c.fixed-fixed.ensures c.requires.by_index.1 in
     let rest = contract_asks own kept c.loop-i-test.true c.loop-i.invariant.1.0 c.record_at-rec.ensures in
     record {
       indexed = c.requires.indexed;
@@ -86,11 +86,11 @@ pub rename-requires : goal.rename-requires
 rename-requires c =
     -- the list passes
     let listed : Passes c.args.list.now =
-        (c.args.settings, c.requires.by_index.0, c.requires.by_index.1.passing) in
+    (c.args.settings, c.requires.by_index.0, c.requires.by_index.1.passing) in
     let words_few : length c.args.list.now ≤ 524288 =
-        few_words c.args.list.now listed c.loop-i.i c.loop-i-test.true in
+    few_words c.args.list.now listed c.loop-i.i c.loop-i-test.true in
     let statics_few : c.loop-i.statics + 2 ≤ (length c.args.list.now / 8) * 2 =
-        few_statics c.args.list.now listed c.loop-i.i c.loop-i-test.true c.loop-i.invariant.1.0 in
+    few_statics c.args.list.now listed c.loop-i.i c.loop-i-test.true c.loop-i.invariant.1.0 in
     record {
       rec_value = gens_fit_lem c.args.list.now listed c.loop-i.i c.loop-i-test.true c.record_at-rec.ensures;
       next_bound = omega (arith, statics_few, words_few);
@@ -100,27 +100,27 @@ pub overflow_add-statics : goal.overflow_add-statics
 overflow_add-statics c =
     -- the list passes
     let listed : Passes c.args.list.now =
-        (c.args.settings, c.requires.by_index.0, c.requires.by_index.1.passing) in
+    (c.args.settings, c.requires.by_index.0, c.requires.by_index.1.passing) in
     let words_few : length c.args.list.now ≤ 524288 =
-        few_words c.args.list.now listed c.loop-i.i c.loop-i-test.true in
+    few_words c.args.list.now listed c.loop-i.i c.loop-i-test.true in
     let statics_few : c.loop-i.statics + 2 ≤ (length c.args.list.now / 8) * 2 =
-        few_statics c.args.list.now listed c.loop-i.i c.loop-i-test.true c.loop-i.invariant.1.0 in
+    few_statics c.args.list.now listed c.loop-i.i c.loop-i-test.true c.loop-i.invariant.1.0 in
     rw c.count_statics-statics.ensures (omega (arith, statics_few, words_few, gens_two c.record_at-rec.result))
 
 pub overflow_add-i : goal.overflow_add-i
 overflow_add-i c =
     -- the list passes
     let listed : Passes c.args.list.now =
-        (c.args.settings, c.requires.by_index.0, c.requires.by_index.1.passing) in
+    (c.args.settings, c.requires.by_index.0, c.requires.by_index.1.passing) in
     let words_few : length c.args.list.now ≤ 524288 =
-        few_words c.args.list.now listed c.loop-i.i c.loop-i-test.true in
+    few_words c.args.list.now listed c.loop-i.i c.loop-i-test.true in
     omega (arith, c.loop-i-test.true, words_few)
 
 pub loop-i-preserved : goal.loop-i-preserved
 loop-i-preserved c =
     -- what the walk was called with, for any settings and table that the third walk's slices are of
     let called : (s : Settings) → (table : List ℕ) → Colored s c.args.list.now table c.args.colours.now c.args.ends.now c.args.locs.now c.args.members → Call =
-        λ s table col. record {
+    λ s table col. record {
       settings = s;
       list = c.args.list.now;
       table = table;
@@ -133,8 +133,7 @@ loop-i-preserved c =
       room_out = c.requires.list_in_bounds;
     } in
     let inv = c.loop-i.invariant in
-    let e = c.record_at-rec.ensures in
-    (
+    let e = c.record_at-rec.ensures in (
       omega (arith, c.loop-i-test.true),
       (
         walked_next c.record_at-rec.result inv.1.0 e c.rename.ensures c.count_statics-statics.ensures,
@@ -150,7 +149,7 @@ pub shape_of-ends : goal.shape_of-ends
 shape_of-ends c =
     -- what the walk was called with, for any settings and table that the third walk's slices are of
     let called : (s : Settings) → (table : List ℕ) → Colored s c.args.list.now table c.args.colours.now c.args.ends.now c.args.locs.now c.args.members → Call =
-        λ s table col. record {
+    λ s table col. record {
       settings = s;
       list = c.args.list.now;
       table = table;
@@ -164,17 +163,17 @@ shape_of-ends c =
     } in
     -- and for its own
     let own : Call =
-        called c.args.settings c.requires.by_index.0 c.requires.by_index.1 in
+    called c.args.settings c.requires.by_index.0 c.requires.by_index.1 in
     -- what the loop keeps, of the walk's own settings and table
     let kept : let g = own in Contracting g.settings g.list g.table g.ends g.out c.loop-i.i c.loop-i.ends c.loop-i.out c.loop-i.tally =
-        c.loop-i.invariant.1.1 c.args.settings c.requires.by_index.0 c.fixed-fixed.ensures c.requires.by_index.1 in
+    c.loop-i.invariant.1.1 c.args.settings c.requires.by_index.0 c.fixed-fixed.ensures c.requires.by_index.1 in
     ends_same own kept c.loop-i.invariant.0
 
 pub shape_of-out : goal.shape_of-out
 shape_of-out c =
     -- what the walk was called with, for any settings and table that the third walk's slices are of
     let called : (s : Settings) → (table : List ℕ) → Colored s c.args.list.now table c.args.colours.now c.args.ends.now c.args.locs.now c.args.members → Call =
-        λ s table col. record {
+    λ s table col. record {
       settings = s;
       list = c.args.list.now;
       table = table;
@@ -188,17 +187,17 @@ shape_of-out c =
     } in
     -- and for its own
     let own : Call =
-        called c.args.settings c.requires.by_index.0 c.requires.by_index.1 in
+    called c.args.settings c.requires.by_index.0 c.requires.by_index.1 in
     -- what the loop keeps, of the walk's own settings and table
     let kept : let g = own in Contracting g.settings g.list g.table g.ends g.out c.loop-i.i c.loop-i.ends c.loop-i.out c.loop-i.tally =
-        c.loop-i.invariant.1.1 c.args.settings c.requires.by_index.0 c.fixed-fixed.ensures c.requires.by_index.1 in
+    c.loop-i.invariant.1.1 c.args.settings c.requires.by_index.0 c.fixed-fixed.ensures c.requires.by_index.1 in
     out_same own kept c.loop-i.invariant.0
 
 pub returns : goal.returns
 returns c =
     -- what the walk was called with, for any settings and table that the third walk's slices are of
     let called : (s : Settings) → (table : List ℕ) → Colored s c.args.list.now table c.args.colours.now c.args.ends.now c.args.locs.now c.args.members → Call =
-        λ s table col. record {
+    λ s table col. record {
       settings = s;
       list = c.args.list.now;
       table = table;

@@ -12,7 +12,6 @@ use Rattle.passes.specs.Contract.{is_kept, outcome_of}
 use Rattle.coloring.specs.Coloring.{was_found}
 use Rattle.walks.specs.Walks.{outcome_in, tallied, put_if}
 use Rattle.walks.proofs.contract.Partner.{written_partner}
-use borrow.Author.Rules.{rules}
 use native.Mathlib.Omega.{arith}
 use Rattle.walks.proofs.contract.contract_record.Goals as goal
 
@@ -35,20 +34,20 @@ pub returns : goal.returns
 returns c =
     -- what becomes of the record, by the definition and by what the calls gave
     let members_in : List Loc =
-        pairs_from c.args.locs.now 0 c.args.members in
+    pairs_from c.args.locs.now 0 c.args.members in
     let outcome : Outcome =
-        outcome_in c.args.fixed members_in (currents_in c.args.regs.now) c.args.next c.args.colours.now c.args.ends.now c.args.rec in
+    outcome_in c.args.fixed members_in (currents_in c.args.regs.now) c.args.next c.args.colours.now c.args.ends.now c.args.rec in
     let outcome_is : c.outcome_of-outcome.result ≡ outcome =
-        let outcome-by = outcome_of c.args.fixed members_in in
+    let outcome-by = outcome_of c.args.fixed members_in in
     c.outcome_of-outcome.ensures
     ∙ (ap (λ f. outcome-by f c.rewrite-written.result) c.was_found-found.ensures
     ∙ ap (outcome-by (was_found (dests c.args.rec) c.args.next c.args.ends.now)) c.rewrite-written.ensures) in
     -- the output, the record being put after the first ones if it is kept
     let put : Outcome → List ℕ → List ℕ =
-        λ outcome w. put_if (is_kept outcome) (c.args.tally.records * 8) w c.args.out.now in
+    λ outcome w. put_if (is_kept outcome) (c.args.tally.records * 8) w c.args.out.now in
     record {
       tally = c.add_outcome.ensures ∙ ap (λ f. tallied f c.args.tally) outcome_is;
       ends = c.unmark.ensures;
       out = c.keep.ensures
-            ∙ (ap (λ f. put f c.rewrite-written.result) outcome_is ∙ ap (put outcome) c.rewrite-written.ensures);
+          ∙ (ap (λ f. put f c.rewrite-written.result) outcome_is ∙ ap (put outcome) c.rewrite-written.ensures);
     }

@@ -1,6 +1,5 @@
 -- `walks::contract::is_beyond` meets its contract: both tests are the definition's.
 use borrow.Author.Tests.{eq-eqb, ne_eqb}
-use borrow.Author.Rules.{rules}
 use Rattle.walks.proofs.contract.is_beyond.Goals as goal
 
 pub returns-then-l-ne0 : goal.returns-then-l-ne0

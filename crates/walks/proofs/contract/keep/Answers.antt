@@ -1,6 +1,5 @@
 -- `walks::contract::keep` meets its contract: a record that is kept is put over the part from its place on.
 use Rattle.mir.proofs.Over.{part_over}
-use borrow.Author.Rules.{rules}
 use Rattle.walks.proofs.contract.keep.Goals as goal
 
 pub returns-in-Kept : goal.returns-in-Kept

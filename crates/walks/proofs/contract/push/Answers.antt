@@ -1,6 +1,5 @@
 -- `walks::contract::push` meets its contract: the words passed stand at the start.
 -- By the law of one word more.
-use Prim.Native.Nat.{◌-◌}
 use mathlib.Core.Path.{◌≡◌, refl, sym, ap, ◌∙◌}
 use native.Mathlib.Numerals.{add-one}
 use native.Mathlib.Omega.{arith}
@@ -18,7 +17,7 @@ pub bounds-out-p : goal.bounds-out-p
 bounds-out-p c =
     -- the slice is as long as it was
     let same : length c.loop-p.out ≡ length c.args.out.now =
-        ap length c.loop-p.invariant.2
+    ap length c.loop-p.invariant.2
     ∙ over_length (take c.loop-p.p c.args.rec) c.args.out.now (rw (length-take-le c.loop-p.p c.args.rec (omega (arith, c.loop-p.invariant.1, c.loop-p.invariant.0))) (omega (arith, c.requires, c.loop-p.invariant.0))) in
     omega (arith, c.requires, c.loop-p-test.true, same)
 
@@ -39,7 +38,7 @@ pub shape_of-out : goal.shape_of-out
 shape_of-out c =
     -- the slice is as long as it was
     let same : length c.loop-p.out ≡ length c.args.out.now =
-        ap length c.loop-p.invariant.2
+    ap length c.loop-p.invariant.2
     ∙ over_length (take c.loop-p.p c.args.rec) c.args.out.now (rw (length-take-le c.loop-p.p c.args.rec (omega (arith, c.loop-p.invariant.1, c.loop-p.invariant.0))) (omega (arith, c.requires, c.loop-p.invariant.0))) in
     same
 

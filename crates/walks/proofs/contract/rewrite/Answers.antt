@@ -9,7 +9,6 @@ use Rattle.mir.specs.Records.{max_regs}
 use Rattle.mir.specs.Questions.{gen_fits}
 use Rattle.mir.specs.Folds.{all}
 use Rattle.walks.proofs.contract.Record.{sources_left, sources_written}
-use borrow.Author.Rules.{rules}
 use Rattle.walks.proofs.contract.rewrite.Goals as goal
 
 pub overflow_add-from : goal.overflow_add-from
@@ -21,7 +20,7 @@ rewrite_words-requires c =
     record {
       count_bound = rw c.shape_of-s.ensures (omega (arith, regs_in_record (get_or c.args.rec 0 0)));
       rec_value = ap (all (gen_fits max_regs)) (sources_left c.args.rec len c.args.next c.args.colours.now c.shape_of-s.result c.shape_of-s.ensures c.rewrite_dests-with.result c.rewrite_dests-with.ensures)
-            ∙ (gens_fit_both max_regs c.args.rec c.requires.rec_value).1;
+          ∙ (gens_fit_both max_regs c.args.rec c.requires.rec_value).1;
       known_in = c.requires.known_in;
     }
 

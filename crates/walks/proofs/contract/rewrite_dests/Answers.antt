@@ -8,33 +8,32 @@ use Rattle.mir.proofs.Renaming.{one_le}
 use Rattle.mir.specs.Inner.{listed}
 use Rattle.walks.specs.Walks.{dest_words}
 use Rattle.walks.proofs.contract.Record.{dests_room}
-use borrow.Author.Rules.{rules}
 use Rattle.walks.proofs.contract.rewrite_dests.Goals as goal
 
 pub offset_bounds-out-p : goal.offset_bounds-out-p
 offset_bounds-out-p c =
     -- the places that are written
     let room_one : c.shape_of-s.result.regs + 1 ≤ 8 =
-        rw (ap length (ap listed c.in-One.is)) at (dests_room c.args.rec c.shape_of-s.result c.dests_of.result c.shape_of-s.ensures (omega arith) c.dests_of.ensures) in
+    rw (ap length (ap listed c.in-One.is)) at (dests_room c.args.rec c.shape_of-s.result c.dests_of.result c.shape_of-s.ensures (omega arith) c.dests_of.ensures) in
     omega (arith, room_one)
 
 pub bounds-out-p : goal.bounds-out-p
 bounds-out-p c =
     -- the places that are written
     let room_one : c.shape_of-s.result.regs + 1 ≤ 8 =
-        rw (ap length (ap listed c.in-One.is)) at (dests_room c.args.rec c.shape_of-s.result c.dests_of.result c.shape_of-s.ensures (omega arith) c.dests_of.ensures) in
+    rw (ap length (ap listed c.in-One.is)) at (dests_room c.args.rec c.shape_of-s.result c.dests_of.result c.shape_of-s.ensures (omega arith) c.dests_of.ensures) in
     omega (arith, room_one)
 
 pub offset_bounds-out-p-in-Two : goal.offset_bounds-out-p-in-Two
 offset_bounds-out-p-in-Two c =
     let room_two : c.shape_of-s.result.regs + 2 ≤ 8 =
-        rw (ap length (ap listed c.in-Two.is)) at (dests_room c.args.rec c.shape_of-s.result c.dests_of.result c.shape_of-s.ensures (omega arith) c.dests_of.ensures) in
+    rw (ap length (ap listed c.in-Two.is)) at (dests_room c.args.rec c.shape_of-s.result c.dests_of.result c.shape_of-s.ensures (omega arith) c.dests_of.ensures) in
     omega (arith, room_two)
 
 pub bounds-out-p-in-Two : goal.bounds-out-p-in-Two
 bounds-out-p-in-Two c =
     let room_two : c.shape_of-s.result.regs + 2 ≤ 8 =
-        rw (ap length (ap listed c.in-Two.is)) at (dests_room c.args.rec c.shape_of-s.result c.dests_of.result c.shape_of-s.ensures (omega arith) c.dests_of.ensures) in
+    rw (ap length (ap listed c.in-Two.is)) at (dests_room c.args.rec c.shape_of-s.result c.dests_of.result c.shape_of-s.ensures (omega arith) c.dests_of.ensures) in
     omega (arith, room_two)
 
 pub dest_word-requires-in-Two-2 : goal.dest_word-requires-in-Two-2
@@ -43,19 +42,19 @@ dest_word-requires-in-Two-2 c = omega (arith, one_le c.in-Two.x, c.count_static.
 pub overflow_add-out : goal.overflow_add-out
 overflow_add-out c =
     let room_two : c.shape_of-s.result.regs + 2 ≤ 8 =
-        rw (ap length (ap listed c.in-Two.is)) at (dests_room c.args.rec c.shape_of-s.result c.dests_of.result c.shape_of-s.ensures (omega arith) c.dests_of.ensures) in
+    rw (ap length (ap listed c.in-Two.is)) at (dests_room c.args.rec c.shape_of-s.result c.dests_of.result c.shape_of-s.ensures (omega arith) c.dests_of.ensures) in
     omega (arith, room_two)
 
 pub offset_bounds-out-p-in-Two-2 : goal.offset_bounds-out-p-in-Two-2
 offset_bounds-out-p-in-Two-2 c =
     let room_two : c.shape_of-s.result.regs + 2 ≤ 8 =
-        rw (ap length (ap listed c.in-Two.is)) at (dests_room c.args.rec c.shape_of-s.result c.dests_of.result c.shape_of-s.ensures (omega arith) c.dests_of.ensures) in
+    rw (ap length (ap listed c.in-Two.is)) at (dests_room c.args.rec c.shape_of-s.result c.dests_of.result c.shape_of-s.ensures (omega arith) c.dests_of.ensures) in
     omega (arith, room_two)
 
 pub bounds-out-p-in-Two-2 : goal.bounds-out-p-in-Two-2
 bounds-out-p-in-Two-2 c =
     let room_two : c.shape_of-s.result.regs + 2 ≤ 8 =
-        rw (ap length (ap listed c.in-Two.is)) at (dests_room c.args.rec c.shape_of-s.result c.dests_of.result c.shape_of-s.ensures (omega arith) c.dests_of.ensures) in
+    rw (ap length (ap listed c.in-Two.is)) at (dests_room c.args.rec c.shape_of-s.result c.dests_of.result c.shape_of-s.ensures (omega arith) c.dests_of.ensures) in
     omega (arith, room_two)
 
 pub returns-in-Nothing : goal.returns-in-Nothing

@@ -1,6 +1,5 @@
 -- `walks::contract::rewrite_words` meets its contract: the words passed are in colours, all else as it was.
 -- By one word more of the words from a place on.
-use Prim.Native.Nat.{◌-◌}
 use mathlib.Core.Path.{◌≡◌, refl}
 use native.Mathlib.Omega.{arith}
 use lib.ListN.{length}

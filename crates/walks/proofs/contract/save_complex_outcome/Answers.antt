@@ -1,7 +1,6 @@
 -- `walks::contract::save_complex_outcome` meets its contract: whether the cell is looked at, and whether either half is read.
 use mathlib.Core.Path.{sym, ◌∙◌}
 use borrow.Author.Tests.{not-true, not-false}
-use borrow.Author.Rules.{rules}
 use Rattle.walks.proofs.contract.save_complex_outcome.Goals as goal
 
 pub returns-then-not-is_beyond : goal.returns-then-not-is_beyond

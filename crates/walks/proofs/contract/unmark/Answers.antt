@@ -6,7 +6,6 @@ use Rattle.walks.specs.Walks.{unmarked}
 use Rattle.mir.specs.Shapes.{dests}
 use Rattle.mir.proofs.Renaming.{one_le}
 use Rattle.mir.proofs.Shapes.{dests_told}
-use borrow.Author.Rules.{rules}
 use Rattle.walks.proofs.contract.unmark.Goals as goal
 
 pub returns-in-Nothing : goal.returns-in-Nothing
@@ -21,12 +20,12 @@ pub returns-in-One : goal.returns-in-One
 unfolding unmarked
 returns-in-One c =
     let one : dests c.args.rec ≡ c.in-One.x ∷ [] =
-        dests_told c.dests_of.ensures c.in-One.is in
+    dests_told c.dests_of.ensures c.in-One.is in
     rw one c.unmark_static.ensures
 
 pub returns-in-Two : goal.returns-in-Two
 unfolding unmarked
 returns-in-Two c =
     let two : dests c.args.rec ≡ c.in-Two.x ∷ c.in-Two.y ∷ [] =
-        dests_told c.dests_of.ensures c.in-Two.is in
+    dests_told c.dests_of.ensures c.in-Two.is in
     rw (two, ← c.unmark_static-in-Two.ensures, ← c.count_static.ensures) c.unmark_static-in-Two-2.ensures

@@ -1,6 +1,5 @@
 -- `walks::contract::unmark_static` meets its contract: the branch's test picks the case.
 use borrow.Author.Tests.{lt-ltb, le-ltb}
-use borrow.Author.Rules.{rules}
 use Rattle.walks.proofs.contract.unmark_static.Goals as goal
 
 pub returns-then-w-lt256 : goal.returns-then-w-lt256
