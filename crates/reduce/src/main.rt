@@ -2,8 +2,9 @@
 #![tactic(auto)]
 
 use console::{FILE, show_input};
+use std::io;
 
-fn main() {
+fn main(rt: HostRuntime) -> io::Result<()> {
     let mut file = [0u8; FILE];
-    show_input(&mut file);
+    show_input(&mut rt.stdin(), &mut rt.stdout(), &mut file)
 }

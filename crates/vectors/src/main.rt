@@ -2,10 +2,11 @@
 // importer/ makes; this program needs no Rust.
 #![tactic(auto)]
 
-ghost use Rattle.std.specs.Prelude.{◌≤◌, ◌≡◌, leb, length};
+ghost use Rattle.std.specs.Prelude.{◌≤◌, ◌≡◌, leb, length, IfOk};
 
-use console::{length_to, word};
-use libc::STDOUT_FILENO;
+use console::{length_to, print_number, print_text, word};
+use std::io;
+use std::io::{Read, Write};
 
 // The longest table and list of a stored case, in words.
 const TABLE: usize = 1024;
@@ -36,16 +37,16 @@ fn put(out: &mut [u32], i: usize, w: u32)
 }
 
 // Puts the next `n` words at the start of `out`, and answers whether they had room there.
-fn words(out: &mut [u32], n: usize) -> bool
+fn words(input: &mut impl Read, out: &mut [u32], n: usize) -> io::Result<bool>
     ensures out_len_unchanged { length out.new ≡ length out.old }
-    ensures value { result ≡ leb n (length out.old) }
+    ensures value { IfOk result (λ b. b ≡ leb n (length out.old)) }
 {
     let mut i = 0;
     while i < n {
-        put(out, i, word());
+        put(out, i, word(input)?);
         i += 1;
     }
-    n <= out.len()
+    Ok(n <= out.len())
 }
 
 #[derive(Clone, Copy)]
@@ -57,34 +58,34 @@ struct Settings {
     compress: u32,
 }
 
-fn read_settings() -> Settings {
-    let count_regs = word();
-    let args = word();
-    let complex = word();
-    let arm = word();
-    let compress = word();
-    Settings {
+fn read_settings(input: &mut impl Read) -> io::Result<Settings> {
+    let count_regs = word(input)?;
+    let args = word(input)?;
+    let complex = word(input)?;
+    let arm = word(input)?;
+    let compress = word(input)?;
+    Ok(Settings {
         count_regs,
         args,
         complex,
         arm,
         compress,
-    }
+    })
 }
 
 // Whether `got` starts with the next words, their number first, and holds FILL after them.
-fn starts(got: &[u32]) -> bool {
-    let n = word() as usize;
+fn starts(input: &mut impl Read, got: &[u32]) -> io::Result<bool> {
+    let n = word(input)? as usize;
     let mut same = n <= got.len();
     let mut i = 0;
     while i < got.len() {
-        let expected = if i < n { word() } else { FILL };
+        let expected = if i < n { word(input)? } else { FILL };
         if got[i] != expected {
             same = false;
         }
         i += 1;
     }
-    same
+    Ok(same)
 }
 
 // Whether every word is what it was at first.
@@ -130,26 +131,35 @@ fn replay_part(
 
 // Whether `survey` answers `expected`, and leaves the lent slice as it is stored.
 fn surveys(
+    input: &mut impl Read,
     s: Settings,
     label: u32,
     list: &[u32],
     table: &[u32],
     expected: u64,
     parts: &mut [u32],
-) -> bool {
+) -> io::Result<bool> {
     let got = rudzaviks::rudzaviks_survey(list, table, s.count_regs, s.compress, label, parts);
-    starts(parts) && got == expected
+    Ok(starts(input, parts)? && got == expected)
 }
 
 // The same, with a slice of the stored length.
-fn replay_survey(s: Settings, label: u32, list: &[u32], table: &[u32], expected: u64) -> bool {
+fn replay_survey(
+    input: &mut impl Read,
+    s: Settings,
+    label: u32,
+    list: &[u32],
+    table: &[u32],
+    expected: u64,
+) -> io::Result<bool> {
     let mut parts = [FILL; PARTS];
-    let n = length_to(PARTS);
-    surveys(s, label, list, table, expected, &mut parts[..n])
+    let n = length_to(input, PARTS)?;
+    surveys(input, s, label, list, table, expected, &mut parts[..n])
 }
 
 // Whether `optimize` answers `expected`, and leaves the lent slices as they are stored.
 fn reduces(
+    input: &mut impl Read,
     s: Settings,
     list: &[u32],
     table: &[u32],
@@ -159,7 +169,7 @@ fn reduces(
     ends: &mut [u32],
     set: &mut [u32],
     counts: &mut [u32],
-) -> bool {
+) -> io::Result<bool> {
     let got = rudzaviks::rudzaviks_optimize(
         list,
         table,
@@ -175,26 +185,33 @@ fn reduces(
         counts,
     );
     let mut same = got == expected;
-    same = starts(out) && same;
-    same = starts(colours) && same;
-    same = starts(ends) && same;
-    same = starts(set) && same;
-    starts(counts) && same
+    same = starts(input, out)? && same;
+    same = starts(input, colours)? && same;
+    same = starts(input, ends)? && same;
+    same = starts(input, set)? && same;
+    Ok(starts(input, counts)? && same)
 }
 
 // The same, with slices of the stored lengths.
-fn replay_optimize(s: Settings, list: &[u32], table: &[u32], expected: u64) -> bool {
+fn replay_optimize(
+    input: &mut impl Read,
+    s: Settings,
+    list: &[u32],
+    table: &[u32],
+    expected: u64,
+) -> io::Result<bool> {
     let mut out = [FILL; OUT];
     let mut colours = [FILL; STATICS];
     let mut ends = [FILL; STATICS];
     let mut set = [FILL; SET];
     let mut counts = [FILL; COUNTS];
-    let o = length_to(OUT);
-    let c = length_to(STATICS);
-    let e = length_to(STATICS);
-    let m = length_to(SET);
-    let n = length_to(COUNTS);
+    let o = length_to(input, OUT)?;
+    let c = length_to(input, STATICS)?;
+    let e = length_to(input, STATICS)?;
+    let m = length_to(input, SET)?;
+    let n = length_to(input, COUNTS)?;
     reduces(
+        input,
         s,
         list,
         table,
@@ -208,58 +225,67 @@ fn replay_optimize(s: Settings, list: &[u32], table: &[u32], expected: u64) -> b
 }
 
 // Whether the answer is the stored one, which comes next.
-fn agrees(op: u32, s: Settings, label: u32, list: &[u32], table: &[u32]) -> bool {
-    let low = word();
-    let high = word();
+fn agrees(
+    input: &mut impl Read,
+    op: u32,
+    s: Settings,
+    label: u32,
+    list: &[u32],
+    table: &[u32],
+) -> io::Result<bool> {
+    let low = word(input)?;
+    let high = word(input)?;
     let expected = (high as u64) * 4_294_967_296 + (low as u64);
     match op {
-        3 => replay_optimize(s, list, table, expected),
-        4 => replay_survey(s, label, list, table, expected),
-        _ => replay_part(op, s, label, list, table, Part { low, high }),
+        3 => replay_optimize(input, s, list, table, expected),
+        4 => replay_survey(input, s, label, list, table, expected),
+        _ => Ok(replay_part(op, s, label, list, table, Part { low, high })),
     }
 }
 
 // Whether the next case's answer is the stored one.
-fn replay() -> bool {
-    let op = word();
-    let s = read_settings();
-    let label = word();
+fn replay(input: &mut impl Read) -> io::Result<bool> {
+    let op = word(input)?;
+    let s = read_settings(input)?;
+    let label = word(input)?;
     let mut table = [0u32; TABLE];
-    let pairs = word() as usize;
-    if !words(&mut table, pairs) {
-        return false;
+    let pairs = word(input)? as usize;
+    if !words(input, &mut table, pairs)? {
+        return Ok(false);
     }
     let mut list = [0u32; LIST];
-    let n = word() as usize;
-    if !words(&mut list, n) {
-        return false;
+    let n = word(input)? as usize;
+    if !words(input, &mut list, n)? {
+        return Ok(false);
     }
-    agrees(op, s, label, &list[..n], &table[..pairs])
+    agrees(input, op, s, label, &list[..n], &table[..pairs])
 }
 
 // Replays case `i`, names it where it differs, and answers how many cases differed.
-fn count_differing(i: u32) -> u32
-    ensures { result ≤ 1 }
+fn count_differing(input: &mut impl Read, out: &mut impl Write, i: u32) -> io::Result<u32>
+    ensures { IfOk result (λ n. n ≤ 1) }
 {
-    if replay() {
-        return 0;
+    if replay(input)? {
+        return Ok(0);
     }
-    io::write_all(STDOUT_FILENO, b"differs: case ");
-    io::print_decimal(STDOUT_FILENO, i as u64);
-    io::write_all(STDOUT_FILENO, b"\n");
-    1
+    print_text(out, b"differs: case ")?;
+    print_number(out, i)?;
+    print_text(out, b"\n")?;
+    Ok(1)
 }
 
-fn main() {
-    let cases = word();
+fn main(rt: HostRuntime) -> io::Result<()> {
+    let mut input = rt.stdin();
+    let mut out = rt.stdout();
+    let cases = word(&mut input)?;
     let mut differ = 0;
     let mut i = 0;
     while i < cases {
-        differ += count_differing(i);
+        differ += count_differing(&mut input, &mut out, i)?;
         i += 1;
     }
-    io::print_decimal(STDOUT_FILENO, cases as u64);
-    io::write_all(STDOUT_FILENO, b" answers replayed, ");
-    io::print_decimal(STDOUT_FILENO, differ as u64);
-    io::write_all(STDOUT_FILENO, b" differ\n");
+    print_number(&mut out, cases)?;
+    print_text(&mut out, b" answers replayed, ")?;
+    print_number(&mut out, differ)?;
+    print_text(&mut out, b" differ\n")
 }
