@@ -8,7 +8,7 @@ fn main() {
     let library = library_dir().join("librudzaviks.a");
     println!("cargo:rerun-if-changed={}", library.display());
     if !library.is_file() {
-        panic!("{} is missing: run `rt staticlib rudzaviks` first", library.display());
+        panic!("{} is missing: run `tools/library` first", library.display());
     }
     println!("cargo:rustc-link-search=native={}", library_dir().display());
     println!("cargo:rustc-link-lib=static=rudzaviks");

@@ -1,4 +1,4 @@
-// The functions exported to C: each takes word slices and numbers, and answers in one 64-bit word.
+// The functions that crate rudzaviks_c exports to C: each takes word slices and numbers, and answers in one 64-bit word.
 #![tactic(auto)]
 
 ghost use Rattle.std.specs.Prelude.{◌/◌, ◌%◌, ◌^◌, ◌≤◌, [], ◌∷◌, ◌≡◌, length, get_or};
@@ -55,8 +55,7 @@ fn write_parts(mask: u64, count: u32, place: u32, parts: &mut [u32])
 }
 
 // `survey`: the label's place, or a refusal; the mask, how many registers it names and the place go into `parts`.
-#[unsafe(no_mangle)]
-pub extern "C" fn rudzaviks_survey(
+pub fn rudzaviks_survey(
     list: &[u32],
     table: &[u32],
     count_regs: u32,
@@ -104,8 +103,7 @@ fn verdict_word(verdict: Verdict) -> u64
 }
 
 // `optimize`: the number of records that the reduced list has, or a refusal; the seven counts go into `counts`.
-#[unsafe(no_mangle)]
-pub extern "C" fn rudzaviks_optimize(
+pub fn rudzaviks_optimize(
     list: &[u32],
     table: &[u32],
     count_regs: u32,
@@ -153,8 +151,7 @@ fn reduce_bytes(file: &[u8], pairs: usize, records: usize, out: &mut [u8]) -> u6
 }
 
 // The file reduced into bytes: the number of records, or a refusal.
-#[unsafe(no_mangle)]
-pub extern "C" fn rudzaviks_reduce(file: &[u8], out: &mut [u8]) -> u64
+pub fn rudzaviks_reduce(file: &[u8], out: &mut [u8]) -> u64
     ensures { RudzaviksReduce file.now out.old out.new result }
 {
     match layout_of(file) {
