@@ -16,20 +16,20 @@ const NAMES: [&str; KINDS] = [
     "mov",
     "load",
     "save",
-    "loadComplex",
-    "saveComplex",
-    "loadConst",
-    "loadArgs",
-    "saveArgs",
+    "load_complex",
+    "save_complex",
+    "load_const",
+    "load_args",
+    "save_args",
     "call",
     "fused",
-    "ifElse",
+    "if_else",
     "label",
     "branch",
-    "branchIf",
-    "loadMath",
-    "loadConstMath",
-    "complexBi",
+    "branch_if",
+    "load_math",
+    "load_const_math",
+    "complex_bi",
 ];
 
 /// The longest line.
@@ -97,11 +97,19 @@ fn table(words: &[u32]) -> String {
     argument(words.chunks_exact(2).flat_map(pair))
 }
 
-/// The list's own name in antt: `first-free` is of the list `firstFree`.
+/// The list's own name in antt: `first-free` is of the list `first_free`.
 fn list_name(name: &str) -> String {
-    let mut words = name.split('-');
-    let first = words.next().unwrap_or_default().to_string();
-    words.fold(first, |text, word| text + &word[..1].to_uppercase() + &word[1..])
+    name.replace('-', "_")
+}
+
+/// The name of the list's equation. A list whose name is one word lends it that.
+fn field_name(name: &str) -> String {
+    let end = match name {
+        "thirty-two" => "_case",
+        _ if name.contains('-') => "_lem",
+        _ => "",
+    };
+    list_name(name) + end
 }
 
 fn definition(Named { name, shows, list }: &Named) -> String {
@@ -115,7 +123,7 @@ fn definition(Named { name, shows, list }: &Named) -> String {
 
 /// A field of a record of equations; the parts of the right side begin a line each.
 fn field(name: &str, of: &str, is: &[String]) -> String {
-    let list = list_name(name);
+    let (name, list) = (field_name(name), list_name(name));
     let right: String = is.iter().map(|part| wrapped("      ", part)).collect();
     format!("  pub {name} :\n      {of} {list}\n{right}")
 }
