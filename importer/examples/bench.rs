@@ -10,7 +10,7 @@
 //! the other; a time is the median of the runs, for one record. A list that left the oracle runs is
 //! timed like any other; the port is to leave as many records as the amended copy.
 //!
-//! With the word `table` it prints the first table alone, and beside the times the instructions of
+//! With the word `table`, or `instructions`, it prints the first table alone, and beside the times the instructions of
 //! the port, as valgrind counts them, or `-` where there is no valgrind. For that each row is run
 //! by this program again, with `once`, the size and the row's number.
 //!
@@ -45,7 +45,7 @@ struct Size {
 
 const FULL: Size = Size { records: 65_536, runs: 9 };
 
-/// More than 4,096 records, so that the port takes the way that it takes for long lists.
+/// Longer than the shorter of LONG, so that lists of both lengths are run.
 const SMOKE: Size = Size { records: 8_192, runs: 1 };
 
 const LENGTHS: [usize; 4] = [64, 512, LONG[0], LONG[1]];
@@ -161,10 +161,10 @@ fn branching(records: usize, labels: u32, number: Number) -> List {
     List { settings, table: Vec::new(), words }
 }
 
-/// The port's index of the cells that are read is chains, one for each head. Space s and index i
-/// are mixed to (i * MIX + s * 1,000,003) mod 2^32, and that times the heads, by 2^32, is the head.
-/// A list of more than 4,096 records has so many heads; with fewer, cells of the first head still
-/// share it.
+/// The cells of the last table are chosen to fall together in an index that goes by multiplying:
+/// space s and index i are mixed to (i * MIX + s * 1,000,003) mod 2^32, and that times HEADS, by
+/// 2^32, is the chain. Today's port has a bit for each near cell and looks through the others one
+/// by one, so that it takes the same time for both kinds of cells.
 const HEADS: u32 = 32_768;
 const MIX: u32 = 2_654_435_769;
 
@@ -183,7 +183,7 @@ fn any_cells(count: usize) -> Vec<u32> {
     iter::repeat_with(|| random.word()).filter(|cell| seen.insert(*cell)).take(count).collect()
 }
 
-/// The cells that come to 0, 1, 2 and so on once they are mixed: all of the first head.
+/// The cells that come to 0, 1, 2 and so on once they are mixed: all of the first chain.
 fn cells_in_one_chain(count: usize) -> Vec<u32> {
     let first_head = 0..=u32::MAX / HEADS;
     let cells: Vec<u32> = first_head.map(|mixed| mixed.wrapping_mul(INVERSE)).take(count).collect();
@@ -396,7 +396,7 @@ fn main() {
     let words: Vec<String> = env::args().skip(1).collect();
     match words.iter().map(String::as_str).collect::<Vec<_>>()[..] {
         [] => print_times(FULL),
-        ["table"] => print_counted(FULL, usize::MAX),
+        ["table" | "instructions"] => print_counted(FULL, usize::MAX),
         ["smoke"] => smoke(),
         ["once", records, row] => run_once(Size { records: number(records), runs: 1 }, number(row)),
         _ => panic!("usage: bench [table | smoke]"),

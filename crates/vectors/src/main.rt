@@ -1,5 +1,5 @@
-// Replays stored answers of the original Rust against the exported functions. docs/FORMAT.md has the form of its input, which
-// importer/ makes; this program needs no Rust.
+// Replays stored answers of the original Rust against the functions of crate rudzaviks, which rudzaviks_c exports.
+// docs/FORMAT.md has the form of its input, which importer/ makes; this program needs no Rust.
 #![tactic(auto)]
 
 ghost use Rattle.std.specs.Prelude.{◌≤◌, ◌≡◌, leb, length, IfOk};

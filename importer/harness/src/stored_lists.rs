@@ -1,4 +1,4 @@
-//! Fifteen lists, each named for what it shows. The theorem `stored-lists` says what is left of
+//! Fifteen lists, each named for what it shows. The theorem `stored_lists` says what is left of
 //! them, by computation; the answers are the amended copy's, and are not written here.
 
 use crate::kinds::*;

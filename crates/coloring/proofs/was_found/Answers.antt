@@ -1,8 +1,8 @@
 -- `coloring::was_found` meets its contract: by the destinations; y's static comes after x's, which is one if x is marked.
 use Prim.Native.Nat.{ℕ}
-use mathlib.Core.Bool.{Bool, true, false, cond, ◌&&◌, and-true, false≢true}
+use mathlib.Core.Bool.{Bool, true, false, cond, ◌&&◌, and-true, false≢true, not}
 use mathlib.Core.List.{[], ◌∷◌}
-use mathlib.Core.Path.{◌≡◌, refl, sym, ◌∙◌}
+use mathlib.Core.Path.{◌≡◌, refl, sym, ◌∙◌, ap}
 use borrow.Author.Tests.{not-true, not-false}
 use Rattle.mir.specs.Shapes.{dests}
 use Rattle.mir.proofs.Shapes.{dests_told}
@@ -19,7 +19,7 @@ unfolding was_found
 returns-then-not-is_marked c =
     let two : dests c.args.rec ≡ c.in-Two.x ∷ c.in-Two.y ∷ [] =
     dests_told c.dests_of.ensures c.in-Two.is in
-    rw (two, sym c.is_marked-in-Two.ensures ∙ not-true _ c.if-not-is_marked.true-raw) refl
+    rw (two, sym c.is_marked-in-Two.ensures ∙ not-true _ (ap not c.if-not-is_marked.true)) refl
 
 pub returns-in-Nothing : goal.returns-in-Nothing
 unfolding was_found
@@ -34,5 +34,5 @@ unfolding was_found
 returns-else-not-is_marked c =
     let two : dests c.args.rec ≡ c.in-Two.x ∷ c.in-Two.y ∷ [] =
     dests_told c.dests_of.ensures c.in-Two.is in
-    let m = sym c.is_marked-in-Two.ensures ∙ not-false _ c.if-not-is_marked.false-raw in
+    let m = sym c.is_marked-in-Two.ensures ∙ not-false _ (ap not c.if-not-is_marked.false) in
     rw (two, one-static _ _ m, m, and-true _) c.is_marked-in-Two-2.ensures

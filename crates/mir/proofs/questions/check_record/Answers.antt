@@ -1,5 +1,6 @@
 -- `mir::questions::check_record` meets its contract: the questions are put in their order, and the first no gives its number.
-use mathlib.Core.Path.{sym, ◌∙◌}
+use mathlib.Core.Bool.{not}
+use mathlib.Core.Path.{sym, ◌∙◌, ap}
 use Rattle.mir.specs.Records.{max_regs}
 use Rattle.mir.proofs.Folds.{answered_no, answered_yes}
 use Rattle.mir.proofs.Passing.{ShapePasses, shape_passes, shape_stops, then_last, gens_fit_more}
@@ -13,7 +14,7 @@ returns-then-not-partner_fits c =
     -- questions 5 to 7 are answered with yes
     let passes : ShapePasses c.args.table.now c.args.count_regs c.args.rec =
     shape_passes _ _ _ (sym c.check_shape-by.ensures ∙ c.if-by-ne0.false) in
-    rw (then_last _ _ _ _ _ passes, answered_no c.partner_fits.ensures c.if-not-partner_fits.true-raw)
+    rw (then_last _ _ _ _ _ passes, answered_no c.partner_fits.ensures (ap not c.if-not-partner_fits.true))
 
 pub check_sources-requires : goal.check_sources-requires
 check_sources-requires c =
@@ -30,5 +31,5 @@ returns c =
     -- questions 5 to 7 are answered with yes
     let passes : ShapePasses c.args.table.now c.args.count_regs c.args.rec =
     shape_passes _ _ _ (sym c.check_shape-by.ensures ∙ c.if-by-ne0.false) in
-    rw (then_last _ _ _ _ _ passes, answered_yes c.partner_fits.ensures c.if-not-partner_fits.false-raw)
+    rw (then_last _ _ _ _ _ passes, answered_yes c.partner_fits.ensures (ap not c.if-not-partner_fits.false))
     c.check_sources.ensures

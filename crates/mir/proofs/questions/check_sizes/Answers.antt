@@ -1,4 +1,6 @@
 -- `mir::questions::check_sizes` meets its contract: questions 1, 3 and 4 are put in this order, at index 0.
+use mathlib.Core.Path.{ap}
+use mathlib.Core.Bool.{not}
 use borrow.Author.Tests.{le-leb, lt-leb, not-true, not-false}
 use Rattle.mir.specs.Questions.{few_registers, sizes_refusal}
 use Rattle.mir.proofs.Folds.{answered_no, answered_yes}
@@ -10,15 +12,15 @@ returns-then-count_regs-gt-MAX_REGS c = simp (lt-leb _ _ c.if-count_regs-gt-MAX_
 
 pub returns-then-not-well_sized : goal.returns-then-not-well_sized
 unfolding few_registers sizes_refusal
-returns-then-not-well_sized c = simp (le-leb _ _ c.if-count_regs-gt-MAX_REGS.false, answered_no c.well_sized.ensures c.if-not-well_sized.true-raw)
+returns-then-not-well_sized c = simp (le-leb _ _ c.if-count_regs-gt-MAX_REGS.false, answered_no c.well_sized.ensures (ap not c.if-not-well_sized.true))
 
 pub returns-then-not-room : goal.returns-then-not-room
 unfolding few_registers sizes_refusal
 returns-then-not-room c =
     simp (
       le-leb _ _ c.if-count_regs-gt-MAX_REGS.false,
-      answered_yes c.well_sized.ensures c.if-not-well_sized.false-raw,
-      not-true c.args.room c.if-not-room.true-raw,
+      answered_yes c.well_sized.ensures (ap not c.if-not-well_sized.false),
+      not-true c.args.room (ap not c.if-not-room.true),
     )
 
 pub returns : goal.returns
@@ -26,6 +28,6 @@ unfolding few_registers sizes_refusal
 returns c =
     simp (
       le-leb _ _ c.if-count_regs-gt-MAX_REGS.false,
-      answered_yes c.well_sized.ensures c.if-not-well_sized.false-raw,
-      not-false c.args.room c.if-not-room.false-raw,
+      answered_yes c.well_sized.ensures (ap not c.if-not-well_sized.false),
+      not-false c.args.room (ap not c.if-not-room.false),
     )

@@ -1,10 +1,10 @@
 -- `questions::branches::collect` meets its contract: the branches passed are in the table, and the first always gets in.
 -- By what a number that is put leaves in the table; the first finds the table empty.
 use Prim.Native.Nat.{ℕ, ◌+◌, ◌*◌, ◌<◌}
-use mathlib.Core.Bool.{Bool, true, false}
+use mathlib.Core.Bool.{Bool, true, false, not}
 use mathlib.Core.List.{List}
 use mathlib.Core.Logic.{⊎_elim}
-use mathlib.Core.Path.{◌≡◌, refl, ◌∙◌}
+use mathlib.Core.Path.{◌≡◌, refl, ◌∙◌, ap}
 use native.Mathlib.Decide.{dec_lt}
 use native.Mathlib.Numerals.{add-one}
 use native.Mathlib.Omega.{arith}
@@ -64,14 +64,14 @@ returns-then-not-put_branch c =
     let h = c.loop-i.invariant.1 in
     let put = c.put_branch.ensures in
     record {
-      more = stops h c.requires.empty put (not-true _ c.if-not-put_branch.true-raw);
+      more = stops h c.requires.empty put (not-true _ (ap not c.if-not-put_branch.true));
       within = c.loop-i.invariant.0;
       held = λ k a l b. put.kept _ (h.held k a l b);
     }
 
 pub loop-i-preserved : goal.loop-i-preserved
 loop-i-preserved c =
-    (search rules, goes_on c.loop-i.invariant.1 c.put_branch.auto.table c.put_branch.ensures (not-false _ c.if-not-put_branch.false-raw))
+    (search rules, goes_on c.loop-i.invariant.1 c.put_branch.auto.table c.put_branch.ensures (not-false _ (ap not c.if-not-put_branch.false)))
 
 pub returns : goal.returns
 returns c =

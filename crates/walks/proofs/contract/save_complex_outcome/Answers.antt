@@ -1,13 +1,14 @@
 -- `walks::contract::save_complex_outcome` meets its contract: whether the cell is looked at, and whether either half is read.
-use mathlib.Core.Path.{sym, ◌∙◌}
+use mathlib.Core.Bool.{not}
+use mathlib.Core.Path.{sym, ◌∙◌, ap}
 use borrow.Author.Tests.{not-true, not-false}
 use Rattle.walks.proofs.contract.save_complex_outcome.Goals as goal
 
 pub returns-then-not-is_beyond : goal.returns-then-not-is_beyond
-returns-then-not-is_beyond c = rw (sym c.is_beyond.ensures ∙ not-true _ c.if-not-is_beyond.true-raw)
+returns-then-not-is_beyond c = rw (sym c.is_beyond.ensures ∙ not-true _ (ap not c.if-not-is_beyond.true))
 
 pub returns-then-contains_either : goal.returns-then-contains_either
-returns-then-contains_either c = rw (sym c.is_beyond.ensures ∙ not-false _ c.if-not-is_beyond.false-raw, sym c.contains_either.ensures ∙ c.if-contains_either.true)
+returns-then-contains_either c = rw (sym c.is_beyond.ensures ∙ not-false _ (ap not c.if-not-is_beyond.false), sym c.contains_either.ensures ∙ c.if-contains_either.true)
 
 pub returns : goal.returns
-returns c = rw (sym c.is_beyond.ensures ∙ not-false _ c.if-not-is_beyond.false-raw, sym c.contains_either.ensures ∙ c.if-contains_either.false)
+returns c = rw (sym c.is_beyond.ensures ∙ not-false _ (ap not c.if-not-is_beyond.false), sym c.contains_either.ensures ∙ c.if-contains_either.false)
