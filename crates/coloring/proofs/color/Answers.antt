@@ -1,10 +1,14 @@
 -- `coloring::color` meets its contract: before each record the slices and the set are the definitions'.
 -- By what `Colouring` says of a record.
 use Rattle.mir.proofs.Renaming.{statics_two, gens_two}
-use Prim.Native.Nat.{◌+◌, ◌*◌, ◌/◌, ◌-◌, ◌≤◌}
+use Prim.Native.Nat.{ℕ, ◌+◌, ◌*◌, ◌/◌, ◌-◌, ◌≤◌}
 use mathlib.Core.Path.{◌≡◌, refl, sym, subst, ◌∙◌}
 use native.Mathlib.Omega.{arith}
+use mathlib.Core.List.{List}
 use lib.ListN.{length}
+use Rattle.mir.specs.declared.config.Settings.{Settings}
+use Rattle.mir.specs.Records.{records}
+use Rattle.passes.specs.Machine.{Passing}
 use Rattle.passes.specs.Color.{color_to, found_at}
 use Rattle.passes.specs.Contract.{colours_of, members_of, words_of}
 use Rattle.lives.specs.Lives.{Passes}
@@ -18,55 +22,40 @@ use Rattle.lives.proofs.Registers.{walked_first, walked_next, few_words, gens_fi
 use borrow.Author.Rules.{rules}
 use Rattle.coloring.proofs.color.Goals as goal
 
+-- what the walk was called with
+abbrev called : (s : Settings) (list table colours ends words : List ℕ) → Passing s list table → records list * 2 ≤ length colours
+    → records list * 2 ≤ length ends → records list * 4 + length table ≤ length words → Call
+called s list table colours ends words passing colours_room ends_room words_room =
+    record {
+      settings = s;
+      list = list;
+      table = table;
+      passing = passing;
+      colours = colours;
+      ends = ends;
+      words = words;
+      colours_room = colours_room;
+      ends_room = ends_room;
+      words_room = words_room;
+    }
+
 -- the list passes
 listed : (g : Call) → Passes g.list
 listed g = (g.settings, g.table, g.passing)
 
 pub reset_allocs-masks-requires : goal.reset_allocs-masks-requires
 reset_allocs-masks-requires c =
-    -- what the walk was called with
-    let called : Call =
-    record {
-      settings = c.args.settings;
-      list = c.args.list.now;
-      table = c.args.table.now;
-      passing = c.requires.passing;
-      colours = c.args.colours.now;
-      ends = c.args.ends.now;
-      words = c.args.set.now;
-      colours_room = c.requires.list_in_bounds;
-      ends_room = c.requires.list_in_bounds_2;
-      words_room = c.requires.table_in_bounds;
-    } in
-    let call : Call =
-    called in
     let g : Call =
-    call in
-    let g = called in
+    called c.args.settings c.args.list.now c.args.table.now c.args.colours.now c.args.ends.now c.args.set.now
+    c.requires.passing c.requires.list_in_bounds c.requires.list_in_bounds_2 c.requires.table_in_bounds in
     (passing_list g.settings g.list g.table g.passing).few
 
 pub loop-i-init : goal.loop-i-init
 unfolding color_to founds_to marked words_of
 loop-i-init c =
-    -- what the walk was called with
-    let called : Call =
-    record {
-      settings = c.args.settings;
-      list = c.args.list.now;
-      table = c.args.table.now;
-      passing = c.requires.passing;
-      colours = c.args.colours.now;
-      ends = c.args.ends.now;
-      words = c.args.set.now;
-      colours_room = c.requires.list_in_bounds;
-      ends_room = c.requires.list_in_bounds_2;
-      words_room = c.requires.table_in_bounds;
-    } in
-    let call : Call =
-    called in
     let g : Call =
-    call in
-    let g = called in (
+    called c.args.settings c.args.list.now c.args.table.now c.args.colours.now c.args.ends.now c.args.set.now
+    c.requires.passing c.requires.list_in_bounds c.requires.list_in_bounds_2 c.requires.table_in_bounds in (
       search rules,
       (
         record {
@@ -85,24 +74,9 @@ record_at-rec-requires c = omega arith
 
 pub overflow_cast-first : goal.overflow_cast-first
 overflow_cast-first c =
-    -- what the walk was called with
-    let called : Call =
-    record {
-      settings = c.args.settings;
-      list = c.args.list.now;
-      table = c.args.table.now;
-      passing = c.requires.passing;
-      colours = c.args.colours.now;
-      ends = c.args.ends.now;
-      words = c.args.set.now;
-      colours_room = c.requires.list_in_bounds;
-      ends_room = c.requires.list_in_bounds_2;
-      words_room = c.requires.table_in_bounds;
-    } in
-    let call : Call =
-    called in
     let g : Call =
-    call in
+    called c.args.settings c.args.list.now c.args.table.now c.args.colours.now c.args.ends.now c.args.set.now
+    c.requires.passing c.requires.list_in_bounds c.requires.list_in_bounds_2 c.requires.table_in_bounds in
     let words_few : length g.list ≤ 524288 =
     few_words g.list (listed g) c.loop-i.i c.loop-i-test.true in
     let statics_few : c.loop-i.statics + 2 ≤ (length g.list / 8) * 2 =
@@ -111,48 +85,18 @@ overflow_cast-first c =
 
 pub overflow_cast-i : goal.overflow_cast-i
 overflow_cast-i c =
-    -- what the walk was called with
-    let called : Call =
-    record {
-      settings = c.args.settings;
-      list = c.args.list.now;
-      table = c.args.table.now;
-      passing = c.requires.passing;
-      colours = c.args.colours.now;
-      ends = c.args.ends.now;
-      words = c.args.set.now;
-      colours_room = c.requires.list_in_bounds;
-      ends_room = c.requires.list_in_bounds_2;
-      words_room = c.requires.table_in_bounds;
-    } in
-    let call : Call =
-    called in
     let g : Call =
-    call in
+    called c.args.settings c.args.list.now c.args.table.now c.args.colours.now c.args.ends.now c.args.set.now
+    c.requires.passing c.requires.list_in_bounds c.requires.list_in_bounds_2 c.requires.table_in_bounds in
     let words_few : length g.list ≤ 524288 =
     few_words g.list (listed g) c.loop-i.i c.loop-i-test.true in
     omega (arith, c.loop-i-test.true, words_few)
 
 pub expire_sources-freed-requires : goal.expire_sources-freed-requires
 expire_sources-freed-requires c =
-    -- what the walk was called with
-    let called : Call =
-    record {
-      settings = c.args.settings;
-      list = c.args.list.now;
-      table = c.args.table.now;
-      passing = c.requires.passing;
-      colours = c.args.colours.now;
-      ends = c.args.ends.now;
-      words = c.args.set.now;
-      colours_room = c.requires.list_in_bounds;
-      ends_room = c.requires.list_in_bounds_2;
-      words_room = c.requires.table_in_bounds;
-    } in
-    let call : Call =
-    called in
     let g : Call =
-    call in
+    called c.args.settings c.args.list.now c.args.table.now c.args.colours.now c.args.ends.now c.args.set.now
+    c.requires.passing c.requires.list_in_bounds c.requires.list_in_bounds_2 c.requires.table_in_bounds in
     let all = expire_asks g c.loop-i.invariant.1.0 c.loop-i-test.true c.record_at-rec.ensures in
     record {
       rec_value = all.0;
@@ -162,48 +106,18 @@ expire_sources-freed-requires c =
 
 pub overflow_cast-i-in-loop-i : goal.overflow_cast-i-in-loop-i
 overflow_cast-i-in-loop-i c =
-    -- what the walk was called with
-    let called : Call =
-    record {
-      settings = c.args.settings;
-      list = c.args.list.now;
-      table = c.args.table.now;
-      passing = c.requires.passing;
-      colours = c.args.colours.now;
-      ends = c.args.ends.now;
-      words = c.args.set.now;
-      colours_room = c.requires.list_in_bounds;
-      ends_room = c.requires.list_in_bounds_2;
-      words_room = c.requires.table_in_bounds;
-    } in
-    let call : Call =
-    called in
     let g : Call =
-    call in
+    called c.args.settings c.args.list.now c.args.table.now c.args.colours.now c.args.ends.now c.args.set.now
+    c.requires.passing c.requires.list_in_bounds c.requires.list_in_bounds_2 c.requires.table_in_bounds in
     let words_few : length g.list ≤ 524288 =
     few_words g.list (listed g) c.loop-i.i c.loop-i-test.true in
     omega (arith, c.loop-i-test.true, words_few)
 
 pub color_record-colored-requires : goal.color_record-colored-requires
 color_record-colored-requires c =
-    -- what the walk was called with
-    let called : Call =
-    record {
-      settings = c.args.settings;
-      list = c.args.list.now;
-      table = c.args.table.now;
-      passing = c.requires.passing;
-      colours = c.args.colours.now;
-      ends = c.args.ends.now;
-      words = c.args.set.now;
-      colours_room = c.requires.list_in_bounds;
-      ends_room = c.requires.list_in_bounds_2;
-      words_room = c.requires.table_in_bounds;
-    } in
-    let call : Call =
-    called in
     let g : Call =
-    call in
+    called c.args.settings c.args.list.now c.args.table.now c.args.colours.now c.args.ends.now c.args.set.now
+    c.requires.passing c.requires.list_in_bounds c.requires.list_in_bounds_2 c.requires.table_in_bounds in
     -- the masks tell of the colours at the record
     let at_record : Holds g.settings.count_regs g.list g.table g.colours g.ends c.loop-i.i c.loop-i.i (state c.expire_sources-freed.result c.loop-i.lives c.loop-i.locs c.loop-i.colours c.loop-i.ends) =
     expire_gives g c.loop-i.invariant.1.0 c.loop-i-test.true c.record_at-rec.ensures c.expire_sources-freed.ensures in
@@ -222,24 +136,9 @@ color_record-colored-requires c =
 
 pub was_found-found-requires : goal.was_found-found-requires
 was_found-found-requires c =
-    -- what the walk was called with
-    let called : Call =
-    record {
-      settings = c.args.settings;
-      list = c.args.list.now;
-      table = c.args.table.now;
-      passing = c.requires.passing;
-      colours = c.args.colours.now;
-      ends = c.args.ends.now;
-      words = c.args.set.now;
-      colours_room = c.requires.list_in_bounds;
-      ends_room = c.requires.list_in_bounds_2;
-      words_room = c.requires.table_in_bounds;
-    } in
-    let call : Call =
-    called in
     let g : Call =
-    call in
+    called c.args.settings c.args.list.now c.args.table.now c.args.colours.now c.args.ends.now c.args.set.now
+    c.requires.passing c.requires.list_in_bounds c.requires.list_in_bounds_2 c.requires.table_in_bounds in
     let statics_few : c.loop-i.statics + 2 ≤ (length g.list / 8) * 2 =
     few_statics g.list (listed g) c.loop-i.i c.loop-i-test.true c.loop-i.invariant.1.0.walked in
     let inv = c.loop-i.invariant in
@@ -247,24 +146,9 @@ was_found-found-requires c =
 
 pub read_record-grown-requires : goal.read_record-grown-requires
 read_record-grown-requires c =
-    -- what the walk was called with
-    let called : Call =
-    record {
-      settings = c.args.settings;
-      list = c.args.list.now;
-      table = c.args.table.now;
-      passing = c.requires.passing;
-      colours = c.args.colours.now;
-      ends = c.args.ends.now;
-      words = c.args.set.now;
-      colours_room = c.requires.list_in_bounds;
-      ends_room = c.requires.list_in_bounds_2;
-      words_room = c.requires.table_in_bounds;
-    } in
-    let call : Call =
-    called in
     let g : Call =
-    call in
+    called c.args.settings c.args.list.now c.args.table.now c.args.colours.now c.args.ends.now c.args.set.now
+    c.requires.passing c.requires.list_in_bounds c.requires.list_in_bounds_2 c.requires.table_in_bounds in
     -- the masks tell of the colours at the record
     let at_record : Holds g.settings.count_regs g.list g.table g.colours g.ends c.loop-i.i c.loop-i.i (state c.expire_sources-freed.result c.loop-i.lives c.loop-i.locs c.loop-i.colours c.loop-i.ends) =
     expire_gives g c.loop-i.invariant.1.0 c.loop-i-test.true c.record_at-rec.ensures c.expire_sources-freed.ensures in
@@ -288,24 +172,9 @@ read_record-grown-requires c =
 
 pub rename-requires : goal.rename-requires
 rename-requires c =
-    -- what the walk was called with
-    let called : Call =
-    record {
-      settings = c.args.settings;
-      list = c.args.list.now;
-      table = c.args.table.now;
-      passing = c.requires.passing;
-      colours = c.args.colours.now;
-      ends = c.args.ends.now;
-      words = c.args.set.now;
-      colours_room = c.requires.list_in_bounds;
-      ends_room = c.requires.list_in_bounds_2;
-      words_room = c.requires.table_in_bounds;
-    } in
-    let call : Call =
-    called in
     let g : Call =
-    call in
+    called c.args.settings c.args.list.now c.args.table.now c.args.colours.now c.args.ends.now c.args.set.now
+    c.requires.passing c.requires.list_in_bounds c.requires.list_in_bounds_2 c.requires.table_in_bounds in
     let words_few : length g.list ≤ 524288 =
     few_words g.list (listed g) c.loop-i.i c.loop-i-test.true in
     let statics_few : c.loop-i.statics + 2 ≤ (length g.list / 8) * 2 =
@@ -317,24 +186,9 @@ rename-requires c =
 
 pub overflow_add-statics : goal.overflow_add-statics
 overflow_add-statics c =
-    -- what the walk was called with
-    let called : Call =
-    record {
-      settings = c.args.settings;
-      list = c.args.list.now;
-      table = c.args.table.now;
-      passing = c.requires.passing;
-      colours = c.args.colours.now;
-      ends = c.args.ends.now;
-      words = c.args.set.now;
-      colours_room = c.requires.list_in_bounds;
-      ends_room = c.requires.list_in_bounds_2;
-      words_room = c.requires.table_in_bounds;
-    } in
-    let call : Call =
-    called in
     let g : Call =
-    call in
+    called c.args.settings c.args.list.now c.args.table.now c.args.colours.now c.args.ends.now c.args.set.now
+    c.requires.passing c.requires.list_in_bounds c.requires.list_in_bounds_2 c.requires.table_in_bounds in
     let words_few : length g.list ≤ 524288 =
     few_words g.list (listed g) c.loop-i.i c.loop-i-test.true in
     let statics_few : c.loop-i.statics + 2 ≤ (length g.list / 8) * 2 =
@@ -343,24 +197,9 @@ overflow_add-statics c =
 
 pub overflow_add-i : goal.overflow_add-i
 overflow_add-i c =
-    -- what the walk was called with
-    let called : Call =
-    record {
-      settings = c.args.settings;
-      list = c.args.list.now;
-      table = c.args.table.now;
-      passing = c.requires.passing;
-      colours = c.args.colours.now;
-      ends = c.args.ends.now;
-      words = c.args.set.now;
-      colours_room = c.requires.list_in_bounds;
-      ends_room = c.requires.list_in_bounds_2;
-      words_room = c.requires.table_in_bounds;
-    } in
-    let call : Call =
-    called in
     let g : Call =
-    call in
+    called c.args.settings c.args.list.now c.args.table.now c.args.colours.now c.args.ends.now c.args.set.now
+    c.requires.passing c.requires.list_in_bounds c.requires.list_in_bounds_2 c.requires.table_in_bounds in
     let words_few : length g.list ≤ 524288 =
     few_words g.list (listed g) c.loop-i.i c.loop-i-test.true in
     omega (arith, c.loop-i-test.true, words_few)
@@ -371,24 +210,9 @@ loop-i-smaller c =
 
 pub loop-i-preserved : goal.loop-i-preserved
 loop-i-preserved c =
-    -- what the walk was called with
-    let called : Call =
-    record {
-      settings = c.args.settings;
-      list = c.args.list.now;
-      table = c.args.table.now;
-      passing = c.requires.passing;
-      colours = c.args.colours.now;
-      ends = c.args.ends.now;
-      words = c.args.set.now;
-      colours_room = c.requires.list_in_bounds;
-      ends_room = c.requires.list_in_bounds_2;
-      words_room = c.requires.table_in_bounds;
-    } in
-    let call : Call =
-    called in
     let g : Call =
-    call in
+    called c.args.settings c.args.list.now c.args.table.now c.args.colours.now c.args.ends.now c.args.set.now
+    c.requires.passing c.requires.list_in_bounds c.requires.list_in_bounds_2 c.requires.table_in_bounds in
     -- the masks tell of the colours at the record
     let at_record : Holds g.settings.count_regs g.list g.table g.colours g.ends c.loop-i.i c.loop-i.i (state c.expire_sources-freed.result c.loop-i.lives c.loop-i.locs c.loop-i.colours c.loop-i.ends) =
     expire_gives g c.loop-i.invariant.1.0 c.loop-i-test.true c.record_at-rec.ensures c.expire_sources-freed.ensures in
@@ -423,65 +247,26 @@ loop-i-preserved c =
 
 pub overflow_cast-result : goal.overflow_cast-result
 overflow_cast-result c =
-    -- what the walk was called with
-    let called : Call =
-    record {
-      settings = c.args.settings;
-      list = c.args.list.now;
-      table = c.args.table.now;
-      passing = c.requires.passing;
-      colours = c.args.colours.now;
-      ends = c.args.ends.now;
-      words = c.args.set.now;
-      colours_room = c.requires.list_in_bounds;
-      ends_room = c.requires.list_in_bounds_2;
-      words_room = c.requires.table_in_bounds;
-    } in
-    let call : Call =
-    called in
-    let h = call in
+    let g : Call =
+    called c.args.settings c.args.list.now c.args.table.now c.args.colours.now c.args.ends.now c.args.set.now
+    c.requires.passing c.requires.list_in_bounds c.requires.list_in_bounds_2 c.requires.table_in_bounds in
+    let h = g in
     let p = passing_list h.settings h.list h.table h.passing in
     omega (arith, c.loop-i.invariant.1.0.walked.statics_are, statics_two h.list c.loop-i.i, c.loop-i.invariant.0, p.sized.small)
 
 pub shape_of-colours : goal.shape_of-colours
 shape_of-colours c =
-    -- what the walk was called with
-    let called : Call =
-    record {
-      settings = c.args.settings;
-      list = c.args.list.now;
-      table = c.args.table.now;
-      passing = c.requires.passing;
-      colours = c.args.colours.now;
-      ends = c.args.ends.now;
-      words = c.args.set.now;
-      colours_room = c.requires.list_in_bounds;
-      ends_room = c.requires.list_in_bounds_2;
-      words_room = c.requires.table_in_bounds;
-    } in
-    let call : Call =
-    called in
-    colours_same call c.loop-i.invariant.1.0 c.loop-i.invariant.0
+    let g : Call =
+    called c.args.settings c.args.list.now c.args.table.now c.args.colours.now c.args.ends.now c.args.set.now
+    c.requires.passing c.requires.list_in_bounds c.requires.list_in_bounds_2 c.requires.table_in_bounds in
+    colours_same g c.loop-i.invariant.1.0 c.loop-i.invariant.0
 
 pub shape_of-ends : goal.shape_of-ends
 shape_of-ends c =
-    -- what the walk was called with
-    let called : Call =
-    record {
-      settings = c.args.settings;
-      list = c.args.list.now;
-      table = c.args.table.now;
-      passing = c.requires.passing;
-      colours = c.args.colours.now;
-      ends = c.args.ends.now;
-      words = c.args.set.now;
-      colours_room = c.requires.list_in_bounds;
-      ends_room = c.requires.list_in_bounds_2;
-      words_room = c.requires.table_in_bounds;
-    } in
-    let call : Call =
-    called in
-    ends_same call c.loop-i.invariant.1.0 c.loop-i.invariant.0
+    let g : Call =
+    called c.args.settings c.args.list.now c.args.table.now c.args.colours.now c.args.ends.now c.args.set.now
+    c.requires.passing c.requires.list_in_bounds c.requires.list_in_bounds_2 c.requires.table_in_bounds in
+    ends_same g c.loop-i.invariant.1.0 c.loop-i.invariant.0
 
 pub shape_of-set : goal.shape_of-set
 shape_of-set c = set_length c.loop-i.invariant.1.0.set_holds
@@ -492,23 +277,10 @@ shape_of-seen c = c.loop-i.invariant.1.1.1
 pub returns : goal.returns
 unfolding colours_of members_of
 returns c =
-    -- what the walk was called with
-    let called : Call =
-    record {
-      settings = c.args.settings;
-      list = c.args.list.now;
-      table = c.args.table.now;
-      passing = c.requires.passing;
-      colours = c.args.colours.now;
-      ends = c.args.ends.now;
-      words = c.args.set.now;
-      colours_room = c.requires.list_in_bounds;
-      ends_room = c.requires.list_in_bounds_2;
-      words_room = c.requires.table_in_bounds;
-    } in
-    let call : Call =
-    called in
-    let h = call in
+    let g : Call =
+    called c.args.settings c.args.list.now c.args.table.now c.args.colours.now c.args.ends.now c.args.set.now
+    c.requires.passing c.requires.list_in_bounds c.requires.list_in_bounds_2 c.requires.table_in_bounds in
+    let h = g in
     let e : c.loop-i.i ≡ length h.list / 8 = omega (arith, c.loop-i.invariant.0, c.loop-i-test.false) in
     let v = rw e at c.loop-i.invariant.1.0 in
     let p = passing_list h.settings h.list h.table h.passing in

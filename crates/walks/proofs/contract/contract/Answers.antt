@@ -13,22 +13,26 @@ use Rattle.lives.proofs.Registers.{walked_first, walked_next, few_words, gens_fi
 use borrow.Author.Rules.{rules}
 use Rattle.walks.proofs.contract.contract.Goals as goal
 
+-- what the walk was called with, for any settings and table that the third walk's slices are of
+abbrev call_of : (list colours ends words : List ℕ) (count : ℕ) (out : List ℕ) → length list ≤ length out
+    → (s : Settings) (table : List ℕ) → Colored s list table colours ends words count → Call
+call_of list colours ends words count out room_out s table colored =
+    record {
+      settings = s;
+      list = list;
+      table = table;
+      colours = colours;
+      ends = ends;
+      words = words;
+      count = count;
+      colored = colored;
+      out = out;
+      room_out = room_out;
+    }
+
 pub loop-i-init : goal.loop-i-init
 loop-i-init c =
-    -- what the walk was called with, for any settings and table that the third walk's slices are of
-    let called : (s : Settings) → (table : List ℕ) → Colored s c.args.list.now table c.args.colours.now c.args.ends.now c.args.locs.now c.args.members → Call =
-    λ s table col. record {
-      settings = s;
-      list = c.args.list.now;
-      table = table;
-      colours = c.args.colours.now;
-      ends = c.args.ends.now;
-      words = c.args.locs.now;
-      count = c.args.members;
-      colored = col;
-      out = c.args.out.now;
-      room_out = c.requires.list_in_bounds;
-    } in
+    let called = call_of c.args.list.now c.args.colours.now c.args.ends.now c.args.locs.now c.args.members c.args.out.now c.requires.list_in_bounds in
     (search rules, (walked_first c.args.list.now, λ s table f col. contracting_first (called s table col)))
 
 pub record_at-rec-requires : goal.record_at-rec-requires
@@ -49,20 +53,7 @@ overflow_cast-first c =
 
 pub contract_record-added-requires : goal.contract_record-added-requires
 contract_record-added-requires c =
-    -- what the walk was called with, for any settings and table that the third walk's slices are of
-    let called : (s : Settings) → (table : List ℕ) → Colored s c.args.list.now table c.args.colours.now c.args.ends.now c.args.locs.now c.args.members → Call =
-    λ s table col. record {
-      settings = s;
-      list = c.args.list.now;
-      table = table;
-      colours = c.args.colours.now;
-      ends = c.args.ends.now;
-      words = c.args.locs.now;
-      count = c.args.members;
-      colored = col;
-      out = c.args.out.now;
-      room_out = c.requires.list_in_bounds;
-    } in
+    let called = call_of c.args.list.now c.args.colours.now c.args.ends.now c.args.locs.now c.args.members c.args.out.now c.requires.list_in_bounds in
     -- and for its own
     let own : Call =
     called c.args.settings c.requires.by_index.0 c.requires.by_index.1 in
@@ -118,20 +109,7 @@ overflow_add-i c =
 
 pub loop-i-preserved : goal.loop-i-preserved
 loop-i-preserved c =
-    -- what the walk was called with, for any settings and table that the third walk's slices are of
-    let called : (s : Settings) → (table : List ℕ) → Colored s c.args.list.now table c.args.colours.now c.args.ends.now c.args.locs.now c.args.members → Call =
-    λ s table col. record {
-      settings = s;
-      list = c.args.list.now;
-      table = table;
-      colours = c.args.colours.now;
-      ends = c.args.ends.now;
-      words = c.args.locs.now;
-      count = c.args.members;
-      colored = col;
-      out = c.args.out.now;
-      room_out = c.requires.list_in_bounds;
-    } in
+    let called = call_of c.args.list.now c.args.colours.now c.args.ends.now c.args.locs.now c.args.members c.args.out.now c.requires.list_in_bounds in
     let inv = c.loop-i.invariant in
     let e = c.record_at-rec.ensures in (
       omega (arith, c.loop-i-test.true),
@@ -147,20 +125,7 @@ loop-i-preserved c =
 
 pub shape_of-ends : goal.shape_of-ends
 shape_of-ends c =
-    -- what the walk was called with, for any settings and table that the third walk's slices are of
-    let called : (s : Settings) → (table : List ℕ) → Colored s c.args.list.now table c.args.colours.now c.args.ends.now c.args.locs.now c.args.members → Call =
-    λ s table col. record {
-      settings = s;
-      list = c.args.list.now;
-      table = table;
-      colours = c.args.colours.now;
-      ends = c.args.ends.now;
-      words = c.args.locs.now;
-      count = c.args.members;
-      colored = col;
-      out = c.args.out.now;
-      room_out = c.requires.list_in_bounds;
-    } in
+    let called = call_of c.args.list.now c.args.colours.now c.args.ends.now c.args.locs.now c.args.members c.args.out.now c.requires.list_in_bounds in
     -- and for its own
     let own : Call =
     called c.args.settings c.requires.by_index.0 c.requires.by_index.1 in
@@ -171,20 +136,7 @@ shape_of-ends c =
 
 pub shape_of-out : goal.shape_of-out
 shape_of-out c =
-    -- what the walk was called with, for any settings and table that the third walk's slices are of
-    let called : (s : Settings) → (table : List ℕ) → Colored s c.args.list.now table c.args.colours.now c.args.ends.now c.args.locs.now c.args.members → Call =
-    λ s table col. record {
-      settings = s;
-      list = c.args.list.now;
-      table = table;
-      colours = c.args.colours.now;
-      ends = c.args.ends.now;
-      words = c.args.locs.now;
-      count = c.args.members;
-      colored = col;
-      out = c.args.out.now;
-      room_out = c.requires.list_in_bounds;
-    } in
+    let called = call_of c.args.list.now c.args.colours.now c.args.ends.now c.args.locs.now c.args.members c.args.out.now c.requires.list_in_bounds in
     -- and for its own
     let own : Call =
     called c.args.settings c.requires.by_index.0 c.requires.by_index.1 in
@@ -195,20 +147,7 @@ shape_of-out c =
 
 pub returns : goal.returns
 returns c =
-    -- what the walk was called with, for any settings and table that the third walk's slices are of
-    let called : (s : Settings) → (table : List ℕ) → Colored s c.args.list.now table c.args.colours.now c.args.ends.now c.args.locs.now c.args.members → Call =
-    λ s table col. record {
-      settings = s;
-      list = c.args.list.now;
-      table = table;
-      colours = c.args.colours.now;
-      ends = c.args.ends.now;
-      words = c.args.locs.now;
-      count = c.args.members;
-      colored = col;
-      out = c.args.out.now;
-      room_out = c.requires.list_in_bounds;
-    } in
+    let called = call_of c.args.list.now c.args.colours.now c.args.ends.now c.args.locs.now c.args.members c.args.out.now c.requires.list_in_bounds in
     let s = c.args.settings in
     λ table col.
     contracted (called s table col) (c.loop-i.invariant.1.1 s table c.fixed-fixed.ensures col)
