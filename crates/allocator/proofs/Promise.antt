@@ -9,8 +9,9 @@ use lib.Dec.{leb}
 use lib.ListN.{length, take}
 use borrow.Author.Tests.{leb-true}
 use Rattle.mir.specs.declared.config.Settings.{Settings}
-use Rattle.mir.specs.declared.questions.Verdict.TheVariants as verdict
-use Rattle.mir.specs.Answers.{answered, unless, over}
+use Rattle.mir.specs.Answers as verdict
+use Rattle.std.specs.Prelude.{Ok, Err}
+use Rattle.mir.specs.Answers.{answered, number_of, unless, over}
 use Rattle.mir.specs.Questions.{refusal}
 use Rattle.mir.specs.Records.{records, fixed_mark}
 use Rattle.mir.proofs.Passing.{not_passed, room_passes}
@@ -22,7 +23,7 @@ use Rattle.passes.specs.Create.{ends_of}
 use Rattle.passes.specs.Machine.{Passing, Preserves}
 use Rattle.theorems.proofs.Lengths.{reduced_length}
 use Rattle.theorems.proofs.Preserved.{list_preserved}
-use Rattle.allocator.specs.declared.Answer.TheVariants.{Reduced, Refused}
+use Rattle.mir.specs.declared.refusal.Refusal.{Refusal}
 use Rattle.walks.specs.declared.Counts.{Counts}
 use Rattle.walks.specs.Lent.{Lent}
 use Rattle.allocator.specs.Optimize.{Optimized, room_for, room_in, verdict_of, report, records_in, left}
@@ -76,7 +77,7 @@ module _ (s : Settings) (list table : List ℕ) (held : Lent) where
   passing v = passing_with (room_in list table held) s list table v
 
 module _ {s : Settings} {list table : List ℕ} {held : Lent} where
-  pub passed_promise : {now : Lent} {r : Counts} → verdict_of s list table held ≡ verdict.Passed → Reduces s list table held now r → Optimized s list table held now (Reduced r)
+  pub passed_promise : {now : Lent} {r : Counts} → verdict_of s list table held ≡ verdict.Passed → Reduces s list table held now r → Optimized s list table held now (Ok r)
   passed_promise {now} {r} v w =
       record {
         answer = ap answered w.counts ∙ sym (ap (λ u. unless u (counts_of s list table)) v);
@@ -87,18 +88,18 @@ module _ {s : Settings} {list table : List ℕ} {held : Lent} where
         preserved = λ p. subst (Preserves s list) (sym kept) (list_preserved s list table (passing s list table held p));
       }
     where
-      kept : take (records_in (report (Reduced r)) * 8) now.out ≡ reduced s list table
+      kept : take (records_in (report (Ok r)) * 8) now.out ≡ reduced s list table
       kept =
-          ap (take (records_in (report (Reduced r)) * 8)) w.out
+          ap (take (records_in (report (Ok r)) * 8)) w.out
           ∙ (ap (λ a. take (records_in a * 8) (over (reduced s list table) held.out)) (ap answered w.counts) ∙ taken s list table held.out)
 
-  pub refused_promise : {number index : ℕ} → verdict_of s list table held ≡ verdict.Refused number index → Optimized s list table held held (Refused number index)
-  refused_promise {number} {index} v =
+  pub refused_promise : {r : Refusal} → verdict_of s list table held ≡ verdict.Refused (number_of r.question) r.index → Optimized s list table held held (Err r)
+  refused_promise {r} v =
       record {
         answer = sym (ap (λ u. unless u (counts_of s list table)) v);
         out = sym (ap (λ u. left u (reduced s list table) held.out) v);
         colours = sym (ap (λ u. left u (colours_of s list table) held.colours) v);
         ends = sym (ap (λ u. left u (ends_of list) held.ends) v);
         set = sym (ap (λ u. left u (words_of (members_of s list table)) held.set) v);
-        preserved = λ p. absurd (not_passed number index (sym v ∙ p));
+        preserved = λ p. absurd (not_passed (number_of r.question) r.index (sym v ∙ p));
       }

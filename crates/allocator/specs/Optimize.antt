@@ -1,15 +1,15 @@
 -- Public, document 01, sections 4, 5, 7 and 10: what `optimize` answers, and what the lent slices then hold.
-use Rattle.std.specs.Prelude.{ℕ, ◌+◌, ◌*◌, ◌/◌, Bool, ◌&&◌, List, ◌≡◌, leb, length, get_or, take}
+use Rattle.std.specs.Prelude.{ℕ, ◌+◌, ◌*◌, ◌/◌, Bool, ◌&&◌, List, Result, Ok, Err, ◌≡◌, leb, length, get_or, take}
 use Rattle.mir.specs.declared.config.Settings.{Settings}
-use Rattle.mir.specs.declared.questions.Verdict.{Verdict}
-use Rattle.mir.specs.declared.questions.Verdict.TheVariants as verdict
-use Rattle.mir.specs.Answers.{Report, answered, refused, unless, over}
+use Rattle.mir.specs.Answers.{Verdict}
+use Rattle.mir.specs.Answers as verdict
+use Rattle.mir.specs.Answers.{Report, answered, refused, number_of, unless, over}
 use Rattle.mir.specs.Questions.{refusal}
 use Rattle.passes.specs.Contract.{reduced, colours_of, members_of, words_of, counts_of}
 use Rattle.passes.specs.Create.{ends_of}
 use Rattle.passes.specs.Machine.{Preserves}
-use Rattle.allocator.specs.declared.Answer.{Answer}
-use Rattle.allocator.specs.declared.Answer.TheVariants.{Reduced, Refused}
+use Rattle.walks.specs.declared.Counts.{Counts}
+use Rattle.mir.specs.declared.refusal.Refusal.{Refusal}
 use Rattle.walks.specs.Lent.{Lent, values_in}
 
 -- section 7, question 4, by the numbers of words: has the output at least the list's length, the statics (colours and
@@ -28,9 +28,9 @@ unfoldable pub verdict_of : Settings → List ℕ → List ℕ → Lent → Verd
 verdict_of s list table held = refusal (room_in list table held) s list table
 
 -- the answer in document 01's terms: the seven counts, or number and index
-abbrev pub report : Answer → Report
-report (Reduced c) = answered (values_in c)
-report (Refused number index) = refused number index
+abbrev pub report : Result Counts Refusal → Report
+report (Ok c) = answered (values_in c)
+report (Err r) = refused (number_of r.question) r.index
 
 -- how many records the reduced list has
 abbrev pub records_in : Report → ℕ
@@ -43,7 +43,7 @@ left verdict.Passed words held = over words held
 left (verdict.Refused number index) words held = held
 
 -- the promise of `optimize`, with what the lent slices held and hold
-pub record Optimized (s : Settings) (list table : List ℕ) (held now : Lent) (given : Answer) : Type 0 where
+pub record Optimized (s : Settings) (list table : List ℕ) (held now : Lent) (given : Result Counts Refusal) : Type 0 where
   pub answer : report given ≡ unless (verdict_of s list table held) (counts_of s list table)
   pub out : now.out ≡ left (verdict_of s list table held) (reduced s list table) held.out
   pub colours : now.colours ≡ left (verdict_of s list table held) (colours_of s list table) held.colours

@@ -1,5 +1,5 @@
 // The allocator: `optimize` puts the questions to a list and shortens one that passes (the Rust's allocator.rs, whose
-// passes are in crate walks).
+// passes are in crates lives, coloring and walks).
 #![tactic(auto)]
 
 ghost use Rattle.std.specs.Prelude.{◌≡◌};
@@ -7,16 +7,9 @@ ghost use Rattle.walks.specs.Lent.{lent};
 ghost use Rattle.allocator.specs.Optimize.{Optimized, room_for};
 
 use mir::config::Settings;
-use mir::questions::Verdict;
+use mir::refusal::Refusal;
 use questions::check;
 use walks::{Counts, reduce};
-
-#[derive(Clone, Copy)]
-pub enum Answer {
-    Reduced(Counts),
-    // The number of the question, and the index of the record.
-    Refused(u32, u32),
-}
 
 // Question 4: whether the lent slices are long enough, by the numbers of their words.
 fn has_room(list: usize, table: usize, out: usize, colours: usize, ends: usize, set: usize) -> bool
@@ -38,7 +31,7 @@ fn has_room(list: usize, table: usize, out: usize, colours: usize, ends: usize, 
     count * 4 <= set - table
 }
 
-// The list reduced, at the start of `out`; each static's colour and end, and the read set.
+// The list reduced, at the start of `out`; each static's colour and end, and the read set. The slices go one by one, as C lends them.
 pub fn optimize(
     list: &[u32],
     table: &[u32],
@@ -47,7 +40,7 @@ pub fn optimize(
     colours: &mut [u32],
     ends: &mut [u32],
     set: &mut [u32],
-) -> Answer
+) -> Result<Counts, Refusal>
     ensures { Optimized settings list.now table.now (lent out.old colours.old ends.old set.old) (lent out.new colours.new ends.new set.new) result }
 {
     let room = has_room(
@@ -58,8 +51,6 @@ pub fn optimize(
         ends.len(),
         set.len(),
     );
-    match check(list, table, settings, room) {
-        Verdict::Passed => Answer::Reduced(reduce(list, table, settings, out, colours, ends, set)),
-        Verdict::Refused(number, index) => Answer::Refused(number, index),
-    }
+    check(list, table, settings, room)?;
+    Ok(reduce(list, table, settings, out, colours, ends, set))
 }

@@ -2,27 +2,19 @@
 // each file, its length in bytes before it; docs/FORMAT.md has the form, and importer/ makes it from the original.
 #![tactic(auto)]
 
-use console::{FILE, length_to, print_number, print_text, show_input, word};
+use console::{FILE, length_to, show_input, word};
 use std::io;
-use std::io::{Read, Write};
-
-fn show_next(input: &mut impl Read, out: &mut impl Write) -> io::Result<()> {
-    let mut file = [0u8; FILE];
-    let n = length_to(input, FILE)?;
-    show_input(input, out, &mut file[..n])
-}
+use std::io::Write;
 
 fn main(rt: HostRuntime) -> io::Result<()> {
     let mut input = rt.stdin();
     let mut out = rt.stdout();
+    let mut file = [0; FILE];
     let cases = word(&mut input)?;
-    let mut k = 0;
-    while k < cases {
-        k += 1;
-        print_text(&mut out, b"case ")?;
-        print_number(&mut out, k)?;
-        print_text(&mut out, b"\n")?;
-        show_next(&mut input, &mut out)?;
+    for case in 1..=cases {
+        writeln!(out, "case {case}")?;
+        let n = length_to(&mut input, FILE)?;
+        show_input(&mut input, &mut out, &mut file[..n])?;
     }
     Ok(())
 }

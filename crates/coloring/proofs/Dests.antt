@@ -1,6 +1,8 @@
 -- The third walk on the lent slices: a record's destinations change what the slices of colours and ends start with as
 -- `after_dests` does, and leave a mark at each end whose static was found.
 -- By the laws of a slice that starts with words, destination by destination.
+use Rattle.passes.specs.declared.symbol.Loc.{Loc}
+use Rattle.std.specs.Prelude.{Option}
 use Prim.Native.Nat.{ℕ, zero, suc, ◌+◌, ◌<◌, ◌≤◌}
 use mathlib.Core.Bool.{Bool, true, false, cond}
 use mathlib.Core.List.{List, [], ◌∷◌, ◌++◌, append-nil, append_assoc}
@@ -16,13 +18,12 @@ use Rattle.mir.specs.Renaming.{one, gens}
 use Rattle.passes.specs.declared.alloc.Alloc.{Alloc}
 use Rattle.passes.specs.declared.alloc.Choice.{Choice}
 use Rattle.passes.specs.declared.alloc.Choice.TheVariants.{Found, Free, Empty}
-use Rattle.passes.specs.declared.alloc.Held.{Held}
 use Rattle.passes.specs.Color.{Coloring, choose, chosen, is_found, choice_for, assign, after_dest, after_dests, HasPool, HavePools}
 use Rattle.theorems.proofs.Choice.{pool_not_empty}
 use Rattle.theorems.proofs.Pool.{words}
 use Rattle.mir.specs.Answers.{over}
-use Rattle.colours.specs.declared.masks.Masks.{Masks}
-use Rattle.colours.specs.Colours.{allocs_in}
+use Rattle.colours.specs.declared.allocs.Allocs.{Allocs}
+use Rattle.colours.specs.Colours.{allocs_in, Stands}
 use Rattle.colours.specs.Masks.{Masked}
 use Rattle.coloring.specs.Coloring.{Slices, slices, slices_in, SlicesAre, mark, dest_step, dest_steps, Picks, ReadyFor, Ready, founds_for, marked}
 use Rattle.mir.proofs.Over.{over_get, over_set, over_next}
@@ -30,12 +31,16 @@ use Rattle.mir.proofs.Over.{over_get, over_set, over_next}
 pub slices_same : {a : List Alloc} {c e : List ℕ} (σ : Slices) → a ≡ σ.allocs → c ≡ σ.colours → e ≡ σ.ends → slices a c e ≡ σ
 slices_same σ p q r = λ i. record { allocs = p i; colours = q i; ends = r i }
 
+-- colours that the masks tell of stand for themselves
+pub standing : {n i : ℕ} {a : Allocs} → Masked n i a.masks (allocs_in a.lives a.locs) → Stands n i a (allocs_in a.lives a.locs)
+standing h = record { same = refl; masked = h }
+
 -- what is lent is the slices that it is said to be, and the masks tell of what is lent
-module _ {n i : ℕ} {σ : Slices} {m : Masks} {lives locs cs es : List ℕ} (h : SlicesAre n i σ m lives locs cs es) where
-  pub lent_are : slices_in lives locs cs es ≡ σ
+module _ {n i : ℕ} {σ : Slices} {a : Allocs} {cs es : List ℕ} (h : SlicesAre n i σ a cs es) where
+  pub lent_are : slices_in a cs es ≡ σ
   lent_are = slices_same σ h.allocs.same h.colours h.ends
 
-  pub lent_masked : Masked n i m (allocs_in lives locs)
+  pub lent_masked : Masked n i a.masks (allocs_in a.lives a.locs)
   lent_masked = rw h.allocs.same h.allocs.masked
 
 -- ---- marks
@@ -75,7 +80,7 @@ mark_shows e false h = lt-leb 65536 (e + 0) (omega arith)
 
 -- ---- a choice that has a pool picks a colour
 
-picks : (n i : ℕ) (h : Held) (st : Coloring) → HasPool n i h st → Picks (choose n i h st.allocs)
+picks : (n i : ℕ) (h : Option Loc) (st : Coloring) → HasPool n i h st → Picks (choose n i h st.allocs)
 picks n i h st p = go (choose n i h st.allocs) (pool_not_empty n i h st p)
   where
     go : (k : Choice) → (k ≡ Empty → ⊥) → Picks k
@@ -85,7 +90,7 @@ picks n i h st p = go (choose n i h st.allocs) (pool_not_empty n i h st p)
 
 -- ---- one destination, by its choice
 
-module _ (n i next w : ℕ) (held : Held) (σ : Slices) where
+module _ (n i next w : ℕ) (held : Option Loc) (σ : Slices) where
   pub step_named : is_gen w ≡ false → dest_step n i next w held σ ≡ σ
   unfolding dest_step
   step_named g = rw g
@@ -103,7 +108,7 @@ module _ (n i next w : ℕ) (held : Held) (σ : Slices) where
         rw (g, e, add-zero (get_or σ.ends next 0), set-get_or σ.ends next 0) refl
 
 -- what a destination asks for, of slices that are these, and of the next static
-pub ready_as : (n i k w : ℕ) (held : Held) {σ τ : Slices} → τ ≡ σ → {made m : ℕ} → made ≡ m → ReadyFor n i (k + m) w held σ → ReadyFor n i (k + made) w held τ
+pub ready_as : (n i k w : ℕ) (held : Option Loc) {σ τ : Slices} → τ ≡ σ → {made m : ℕ} → made ≡ m → ReadyFor n i (k + m) w held σ → ReadyFor n i (k + made) w held τ
 ready_as n i k w held e f h = rw (e, f) h
 
 -- ---- destination by destination
@@ -117,7 +122,7 @@ module _ (n i : ℕ) (E C0 E0 : List ℕ) (wide : length E ≤ length C0) (small
   end_at : (fs : List Bool) (k : ℕ) → length fs ≤ k → k < length E → get_or (over (marked fs E) E0) k 0 ≡ get_or E k 0
   end_at fs k h l = over_get (marked fs E) E0 k 0 (rw (marked_length fs E) l) ∙ marked_past fs E k h
 
-  dest_at : (w : ℕ) (held : Held) (st : Coloring) (fs : List Bool) (next : ℕ) → next ≡ length st.colours → next ≡ length fs → next + one w ≤ length E
+  dest_at : (w : ℕ) (held : Option Loc) (st : Coloring) (fs : List Bool) (next : ℕ) → next ≡ length st.colours → next ≡ length fs → next + one w ≤ length E
       → dest_step n i next w held (at st fs) ≡ at (after_dest n i E w held st) (fs ++ cond (is_gen w) (is_found (choice_for n i held st) ∷ []) [])
   unfolding dest_step after_dest
   dest_at w held st fs next e f h = go (is_gen w) h
@@ -146,7 +151,7 @@ module _ (n i : ℕ) (E C0 E0 : List ℕ) (wide : length E ≤ length C0) (small
           ∙ ap (λ xs. over xs E0) (ap (λ k. set (marked fs E) k (get_or E k 0 + mark (is_found ch))) f ∙ marked_next fs (is_found ch) E (omega (arith, f)))))
 
   -- how many statics a destination has made
-  made : (w : ℕ) (held : Held) (st : Coloring) → length (after_dest n i E w held st).colours ≡ length st.colours + one w
+  made : (w : ℕ) (held : Option Loc) (st : Coloring) → length (after_dest n i E w held st).colours ≡ length st.colours + one w
   unfolding after_dest
   made w held st = go (is_gen w)
     where
@@ -164,7 +169,7 @@ module _ (n i : ℕ) (E C0 E0 : List ℕ) (wide : length E ≤ length C0) (small
       go true = length-append fs (g ∷ [])
       go false = length-append fs []
 
-  pub dests_at_lem : (ds : List (ℕ × Held)) (st : Coloring) (fs : List Bool) (next : ℕ) → next ≡ length st.colours → next ≡ length fs → next + gens (words ds) ≤ length E
+  pub dests_at_lem : (ds : List (ℕ × Option Loc)) (st : Coloring) (fs : List Bool) (next : ℕ) → next ≡ length st.colours → next ≡ length fs → next + gens (words ds) ≤ length E
       → dest_steps n i next ds (at st fs) ≡ at (after_dests n i E ds st) (fs ++ founds_for n i E ds st)
   unfolding dest_steps after_dests founds_for gens words
   dests_at_lem [] st fs next e f h = rw (append-nil fs) refl
@@ -175,7 +180,7 @@ module _ (n i : ℕ) (E C0 E0 : List ℕ) (wide : length E ≤ length C0) (small
       (ap (λ k. k + one d.0) e ∙ sym (made d.0 d.1 st)) (ap (λ k. k + one d.0) f ∙ sym (flagged d.0 g fs)) (omega arith)
       ∙ ap (at (after_dests n i E ds (after_dest n i E d.0 d.1 st))) (append_assoc fs (cond (is_gen d.0) (g ∷ []) []) (founds_for n i E ds (after_dest n i E d.0 d.1 st))))
 
-  pub ready_at : (ds : List (ℕ × Held)) (st : Coloring) (fs : List Bool) (next : ℕ) → next ≡ length st.colours → next ≡ length fs → next + gens (words ds) ≤ length E
+  pub ready_at : (ds : List (ℕ × Option Loc)) (st : Coloring) (fs : List Bool) (next : ℕ) → next ≡ length st.colours → next ≡ length fs → next + gens (words ds) ≤ length E
       → HavePools n i E ds st → Ready n i next ds (at st fs)
   unfolding gens words
   ready_at [] st fs next e f h p = tt

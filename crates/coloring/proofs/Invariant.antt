@@ -1,5 +1,6 @@
 -- The third walk: what its loop keeps, what a record may be asked for, and that the record takes it to the next.
--- The lent slices are those of the definitions at i; `Stepped` takes them on, and the members grow by what the record reads.
+-- The lent slices are those of the definitions at i; a record takes them on, and the members grow by what it reads.
+use Rattle.std.specs.Prelude.{Option}
 use Prim.Native.Nat.{ℕ, suc, ◌+◌, ◌-◌, ◌*◌, ◌/◌, ◌<◌, ◌≤◌}
 use mathlib.Core.Bool.{Bool, true}
 use mathlib.Core.List.{List}
@@ -8,227 +9,166 @@ use native.Mathlib.Numerals.{add-one}
 use native.Mathlib.Omega.{arith}
 use lib.ListN.{length}
 use Rattle.mir.specs.declared.config.Settings.{Settings}
-use Rattle.mir.specs.Inner.{currents_in}
-use Rattle.mir.specs.Questions.{fields_fit, gens_fit, partner_fits}
+use Rattle.mir.specs.Questions.{fields_fit, partner_fits}
 use Rattle.mir.specs.Records.{max_regs, records, record_at}
 use Rattle.mir.specs.Renaming.{statics_to, regs_to}
 use Rattle.mir.specs.Shapes.{any, dests}
-use Rattle.mir.proofs.Passing.{ListPasses, gens_fit_more}
+use Rattle.mir.proofs.Passing.{ListPasses}
 use Rattle.mir.proofs.Renaming.{statics_two}
-use Rattle.passes.specs.Color.{Setup, loc_of, pairs_from, joined, found_at, color_to}
+use Rattle.passes.specs.Color.{setup, loc_of, joined, found_at, color_to}
 use Rattle.passes.specs.Create.{ends_of}
 use Rattle.passes.specs.Machine.{Passing}
 use Rattle.theorems.proofs.ReadSet.{reads_at, members_next}
 use Rattle.theorems.proofs.Members.{few_members}
 use Rattle.theorems.proofs.NeverEmpty.{ready_to}
 use Rattle.mir.specs.Answers.{over}
-use Rattle.passes.specs.Contract.{words_of}
-use Rattle.colours.specs.declared.masks.Masks.{Masks}
-use Rattle.colours.specs.Colours.{allocs_in}
-use Rattle.colours.specs.Masks.{Masked, Expired}
+use Rattle.colours.specs.declared.allocs.Allocs.{Allocs}
+use Rattle.colours.specs.Masks.{Expired}
 use Rattle.colours.proofs.Expiring.{expired_stands}
 use Rattle.lives.specs.Lives.{KnownIn}
 use Rattle.coloring.specs.Coloring.{Slices, slices, slices_in, SlicesAre, Ready, Coloured, source_words, wanted_by, record_step, was_found, reads_of, founds_to, marked}
-use Rattle.coloring.proofs.Dests.{marked_length, lent_are, lent_masked}
+use Rattle.coloring.proofs.Dests.{marked_length, lent_are}
 use Rattle.mir.proofs.Over.{over_length}
-use Rattle.sets.proofs.Pairs.{SetHolds, set_pairs, set_length, set_within, set_grows, joined_grows}
+use Rattle.sets.specs.declared.ReadSet.{ReadSet}
+use Rattle.sets.specs.Members.{members_in, SetHolds}
+use Rattle.sets.proofs.Pairs.{holds_length, holds_more, joined_grows}
 use Rattle.coloring.proofs.Record.{all_statics, sources_fit, sources_due, record_ready, record_step_lem, found_after}
 use Rattle.coloring.proofs.Sources.{space_below, coloured_in}
-use Rattle.lives.proofs.Registers.{Walked, passing_list, walked_known}
-
--- a list's setup, by the number of its colours
-abbrev pub counted : ℕ → List ℕ → List ℕ → Setup
-counted n list table = record { count = n; ends = ends_of list; table = table; list = list }
+use Rattle.lives.proofs.Registers.{Walked, passing_list, walked_known, few_words, few_statics}
 
 -- the lent slices before record i
-abbrev pub slices_at : ℕ → List ℕ → List ℕ → List ℕ → List ℕ → ℕ → Slices
-slices_at n list table C0 E0 i =
-    slices (color_to (counted n list table) i).allocs (over (color_to (counted n list table) i).colours C0) (over (marked (founds_to (counted n list table) i) (ends_of list)) E0)
+abbrev pub slices_at : Settings → List ℕ → List ℕ → List ℕ → List ℕ → ℕ → Slices
+slices_at s list table C0 E0 i =
+    slices (color_to (setup s list table) i).allocs (over (color_to (setup s list table) i).colours C0) (over (marked (founds_to (setup s list table) i) (ends_of list)) E0)
 
--- what is lent to the walk's steps, with the masks
+-- what is lent to the walk's steps
 pub record State : Type 0 where
-  pub masks : Masks
-  pub lives : List ℕ
-  pub locs : List ℕ
+  pub allocs : Allocs
   pub colours : List ℕ
   pub ends : List ℕ
 
-abbrev pub state : Masks → List ℕ → List ℕ → List ℕ → List ℕ → State
-state masks lives locs colours ends = record { masks = masks; lives = lives; locs = locs; colours = colours; ends = ends }
+abbrev pub state : Allocs → List ℕ → List ℕ → State
+state allocs colours ends = record { allocs = allocs; colours = colours; ends = ends }
 
 -- it is the slices before record i; the masks tell of the colours at instruction j
-abbrev pub Holds : ℕ → List ℕ → List ℕ → List ℕ → List ℕ → ℕ → ℕ → State → Type 0
-Holds n list table C0 E0 i j st = SlicesAre n j (slices_at n list table C0 E0 i) st.masks st.lives st.locs st.colours st.ends
-
--- between two records the masks tell of the colours at the one before
-pub record Colouring (n : ℕ) (list table C0 E0 S0 : List ℕ) (i : ℕ) (st : State) (words : List ℕ) (members : ℕ) (regs : List ℕ) (statics : ℕ) : Type 0 where
-  pub walked : Walked list i regs statics
-  pub holds : Holds n list table C0 E0 i (i - 1) st
-  pub set_holds : SetHolds S0 words members (color_to (counted n list table) i).members
+abbrev pub Holds : Settings → List ℕ → List ℕ → List ℕ → List ℕ → ℕ → ℕ → State → Type 0
+Holds s list table C0 E0 i j st = SlicesAre s.count_regs j (slices_at s list table C0 E0 i) st.allocs st.colours st.ends
 
 -- what the walk is called with: a list that passes, and slices that have room
-pub record Call : Type 0 where
-  pub settings : Settings
-  pub list : List ℕ
-  pub table : List ℕ
-  pub passing : Passing settings list table
-  pub colours : List ℕ
-  pub ends : List ℕ
-  pub words : List ℕ
-  pub colours_room : records list * 2 ≤ length colours
-  pub ends_room : records list * 2 ≤ length ends
-  pub words_room : records list * 4 + length table ≤ length words
+pub record Called (s : Settings) (list table C0 E0 S0 : List ℕ) : Type 0 where
+  pub passing : Passing s list table
+  pub colours_room : records list * 2 ≤ length C0
+  pub ends_room : records list * 2 ≤ length E0
+  pub words_room : records list * 4 + length table ≤ length S0
 
-abbrev pub setup_of : Call → Setup
-setup_of g = counted g.settings.count_regs g.list g.table
+-- between two records the masks tell of the colours at the one before
+pub record Colouring (s : Settings) (list table C0 E0 S0 : List ℕ) (i : ℕ) (st : State) (set : ReadSet) (regs : List (Option ℕ)) (statics : ℕ) : Type 0 where
+  pub called : Called s list table C0 E0 S0
+  pub walked : Walked list i regs statics
+  pub holds : Holds s list table C0 E0 i (i - 1) st
+  pub set_holds : SetHolds set (color_to (setup s list table) i).members S0
 
-abbrev pub slices_of : Call → ℕ → Slices
-slices_of g i = slices_at g.settings.count_regs g.list g.table g.colours g.ends i
+module _ {s : Settings} {list table C0 E0 S0 : List ℕ} where
+  module _ (g : Called s list table C0 E0 S0) where
+    passes : ListPasses s list table
+    passes = passing_list s list table g.passing
 
-module _ (g : Call) where
-  abbrev s : Settings
-  s = g.settings
+    wide : length (ends_of list) ≤ length C0
+    wide = omega (arith, ends_all, statics_two list (records list), g.colours_room)
+      where
+        ends_all : length (ends_of list) ≡ statics_to list (records list)
+        ends_all = all_statics s list table passes (ends_of list) (ends_of list) (omega arith)
 
-  abbrev n : ℕ
-  n = s.count_regs
+    ends_fit : length (ends_of list) ≤ length E0
+    ends_fit = omega (arith, all_statics s list table passes C0 E0 wide, statics_two list (records list), g.ends_room)
 
-  abbrev list : List ℕ
-  list = g.list
-
-  abbrev table : List ℕ
-  table = g.table
-
-  abbrev C0 : List ℕ
-  C0 = g.colours
-
-  abbrev E0 : List ℕ
-  E0 = g.ends
-
-  abbrev S0 : List ℕ
-  S0 = g.words
-
-  pub passes : ListPasses s list table
-  passes = passing_list s list table g.passing
-
-  pub wide : length (ends_of list) ≤ length C0
-  wide = omega (arith, ends_all, statics_two list (records list), g.colours_room)
-    where
-      ends_all : length (ends_of list) ≡ statics_to list (records list)
-      ends_all = all_statics s list table passes (ends_of list) (ends_of list) (omega arith)
-
-  pub ends_fit : length (ends_of list) ≤ length E0
-  ends_fit = omega (arith, all_statics s list table passes C0 E0 wide, statics_two list (records list), g.ends_room)
-
-  module _ {i : ℕ} {st : State} {words : List ℕ} {members : ℕ} {regs : List ℕ} {statics : ℕ} (inv : Colouring s.count_regs list table C0 E0 S0 i st words members regs statics) (le : i ≤ records list) where
-    pub colours_same : length st.colours ≡ length C0
-    colours_same =
+  module _ {i : ℕ} {st : State} {set : ReadSet} {regs : List (Option ℕ)} {statics : ℕ} (inv : Colouring s list table C0 E0 S0 i st set regs statics) where
+    pub colours_same : i ≤ records list → length st.colours ≡ length C0
+    colours_same le =
         ap length inv.holds.colours
-        ∙ over_length (color_to (counted n list table) i).colours C0 (rw (ready_to s list table passes i le).next (omega (arith, statics_two list i, g.colours_room)))
+        ∙ over_length (color_to (setup s list table) i).colours C0 (rw (ready_to s list table (passes inv.called) i le).next (omega (arith, statics_two list i, inv.called.colours_room)))
 
     pub ends_same : length st.ends ≡ length E0
     ends_same =
         ap length inv.holds.ends
-        ∙ over_length (marked (founds_to (counted n list table) i) (ends_of list)) E0 (rw (marked_length (founds_to (counted n list table) i) (ends_of list)) ends_fit)
+        ∙ over_length (marked (founds_to (setup s list table) i) (ends_of list)) E0 (rw (marked_length (founds_to (setup s list table) i) (ends_of list)) (ends_fit inv.called))
 
-  module _ {i : ℕ} {st : State} {words : List ℕ} {members : ℕ} {regs : List ℕ} {statics : ℕ} (inv : Colouring s.count_regs list table C0 E0 S0 i st words members regs statics) (l : i < length list / 8)
-      {rec : List ℕ} (e : rec ≡ record_at list i) where
-    record_gens : gens_fit max_regs rec ≡ true
-    record_gens = rw e (gens_fit_more n max_regs (record_at list i) passes.few (passes.each i l).shape.gens)
+    module _ (l : i < length list / 8) where
+      le : i ≤ records list
+      le = omega arith
 
-    first_fits : (m : ℕ) → records list * 2 ≤ m → statics + 2 ≤ m
-    first_fits m q = omega (arith, inv.walked.statics_are, statics_two list i, q)
+      -- the list's words, and the statics before a record and its own, are few
+      pub words_few : length list ≤ 524288
+      words_few = few_words list (s, table, inv.called.passing) i l
 
-    le : i ≤ records list
-    le = omega arith
+      pub statics_few : statics + 2 ≤ (length list / 8) * 2
+      statics_few = few_statics list (s, table, inv.called.passing) i l inv.walked
 
-    known : KnownIn regs (length st.colours)
-    known = walked_known inv.walked (omega (arith, colours_same inv le, first_fits (length C0) g.colours_room))
+      pub colours_two : statics + 2 ≤ length st.colours
+      colours_two = rw (colours_same le) (omega (arith, statics_few, inv.called.colours_room))
 
-    -- the sources' colours are those of the definitions
-    words_are : source_words (currents_in regs) st.colours rec ≡ source_words (regs_to list i) (slices_at n list table C0 E0 i).colours (record_at list i)
-    words_are = rw (inv.holds.colours, inv.walked.regs_are, e) refl
+      pub ends_two : statics + 2 ≤ length st.ends
+      ends_two = rw ends_same (omega (arith, statics_few, inv.called.ends_room))
 
-    coloured : Coloured n (source_words (currents_in regs) st.colours rec)
-    coloured = rw words_are (sources_fit s list table passes C0 E0 wide i l)
+      pub known : KnownIn regs (length st.colours)
+      known = walked_known inv.walked (omega (arith, colours_two))
 
-    -- what making colours free asks for, and what it gives: the masks tell of the colours at this record
-    pub expire_asks : (gens_fit max_regs rec ≡ true) × (KnownIn regs (length st.colours) × Coloured max_regs (source_words (currents_in regs) st.colours rec))
-    expire_asks = (record_gens, (known, λ j z k. omega (arith, coloured j z k, passes.few)))
+      module _ {rec : List ℕ} (e : rec ≡ record_at list i) where
+        -- what the record's own words are
+        pub record_fields : fields_fit table rec ≡ true
+        record_fields = rw e ((passes inv.called).each i l).shape.fields
 
-    pub expire_gives : {freed : Masks} → Expired st.masks (source_words (currents_in regs) st.colours rec) i st.lives freed
-        → Holds n list table C0 E0 i i (state freed st.lives st.locs st.colours st.ends)
-    expire_gives x =
-        record {
-          allocs = expired_stands inv.holds.allocs x (omega arith) (rw words_are (sources_due s list table passes C0 E0 wide i l)) (coloured_in n _ coloured);
-          colours = inv.holds.colours;
-          ends = inv.holds.ends;
-        }
+        pub record_partner : partner_fits rec ≡ true
+        record_partner = rw e ((passes inv.called).each i l).partner
 
-    module _ {freed : Masks} (h : Holds n list table C0 E0 i i (state freed st.lives st.locs st.colours st.ends)) where
-      -- what colouring the record asks for
-      pub color_asks : (gens_fit max_regs rec ≡ true) × ((partner_fits rec ≡ true) × (((loc_of rec).space < any) × (KnownIn regs (length st.colours)
-          × (Coloured n (source_words (currents_in regs) st.colours rec)
-          × (Masked n i freed (allocs_in st.lives st.locs)
-          × ((statics + 2 ≤ length st.colours) × ((statics + 2 ≤ length st.ends)
-          × Ready n i statics (wanted_by (currents_in regs) rec (slices_in st.lives st.locs st.colours st.ends)) (slices_in st.lives st.locs st.colours st.ends))))))))
-      color_asks = (
-        record_gens,
-        (
-          rw e (passes.each i l).partner,
-          (
-            rw e (space_below table (record_at list i) (passes.each i l).shape.fields),
-            (
-              known,
-              (
-                coloured,
-                (
-                  lent_masked h,
-                  (
-                    rw (colours_same inv le) (first_fits (length C0) g.colours_room),
-                    (
-                      rw (ends_same inv le) (first_fits (length E0) g.ends_room),
-                      subst (λ σ. Ready n i statics (wanted_by (currents_in regs) rec σ) σ) (sym (lent_are h))
-                          (rw (inv.walked.regs_are, inv.walked.statics_are, e) (record_ready s list table passes C0 E0 wide i l)),
-                    ),
-                  ),
-                ),
-              ),
-            ),
-          ),
-        ),
-      )
+        pub record_space : (loc_of rec).space < any
+        record_space = space_below table rec record_fields
 
-      pub color_gives : record_step n i statics (currents_in regs) rec (slices_in st.lives st.locs st.colours st.ends) ≡ slices_at n list table C0 E0 (i + 1)
-      color_gives = rw (lent_are h, inv.walked.regs_are, inv.walked.statics_are, e) (record_step_lem s list table passes C0 E0 wide i l)
+        -- the sources' colours are those of the definitions
+        words_are : source_words regs st.colours rec ≡ source_words (regs_to list i) (slices_at s list table C0 E0 i).colours (record_at list i)
+        words_are = rw (inv.holds.colours, inv.walked.regs_are, e) refl
 
-    pub found_gives : {ends : List ℕ} → ends ≡ (slices_at n list table C0 E0 (i + 1)).ends → was_found (dests rec) statics ends ≡ found_at (counted n list table) i (color_to (counted n list table) i)
-    found_gives q = rw (q, inv.walked.statics_are, e) (found_after s list table passes C0 E0 wide i l)
+        pub coloured : Coloured s.count_regs (source_words regs st.colours rec)
+        coloured = rw words_are (sources_fit s list table (passes inv.called) C0 E0 (wide inv.called) i l)
 
-    module _ {found : Bool} (f : found ≡ found_at (counted n list table) i (color_to (counted n list table) i)) where
-      -- what the record reads, in the definitions' words
-      pub reads_are : joined (pairs_from words 0 members) (reads_of table rec found) ≡ (color_to (counted n list table) (i + 1)).members
-      unfolding reads_at
-      reads_are = rw (add-one i, members_next (counted n list table) i, set_pairs inv.set_holds, f, e) refl
+        pub coloured_most : Coloured max_regs (source_words regs st.colours rec)
+        coloured_most j z k = omega (arith, coloured j z k, (passes inv.called).few)
 
-      members_fit : length (color_to (counted n list table) (i + 1)).members * 2 ≤ length S0
-      members_fit = rw (add-one i) (omega (arith, few_members s list table passes (suc i) (omega arith), g.words_room))
+        -- what making colours free gives: the masks tell of the colours at this record
+        pub expire_gives : {freed : Allocs} → Expired st.allocs (source_words regs st.colours rec) i freed → Holds s list table C0 E0 i i (state freed st.colours st.ends)
+        expire_gives x =
+            record {
+              allocs = expired_stands inv.holds.allocs x (omega arith) (rw words_are (sources_due s list table (passes inv.called) C0 E0 (wide inv.called) i l)) (coloured_in s.count_regs _ coloured);
+              colours = inv.holds.colours;
+              ends = inv.holds.ends;
+            }
 
-      pub read_asks : (fields_fit table rec ≡ true) × ((partner_fits rec ≡ true) × ((members * 2 ≤ length words) × (length (joined (pairs_from words 0 members) (reads_of table rec found)) * 2 ≤ length words)))
-      read_asks = (
-        rw e (passes.each i l).shape.fields,
-        (
-          rw e (passes.each i l).partner,
-          (
-            set_within inv.set_holds,
-            rw (reads_are, set_length inv.set_holds) members_fit,
-          ),
-        ),
-      )
+        -- what colouring the record asks for, and what it gives: what is lent after it, and that the masks tell of the colours there
+        module _ {freed : Allocs} (h : Holds s list table C0 E0 i i (state freed st.colours st.ends)) where
+          pub color_ready : Ready s.count_regs i statics (wanted_by regs rec (slices_in freed st.colours st.ends)) (slices_in freed st.colours st.ends)
+          color_ready =
+              subst (λ σ. Ready s.count_regs i statics (wanted_by regs rec σ) σ) (sym (lent_are h))
+              (rw (inv.walked.regs_are, inv.walked.statics_are, e) (record_ready s list table (passes inv.called) C0 E0 (wide inv.called) i l))
 
-      pub read_gives : {words' : List ℕ} {members' : ℕ} → members' ≡ length (joined (pairs_from words 0 members) (reads_of table rec found))
-          → words' ≡ over (words_of (joined (pairs_from words 0 members) (reads_of table rec found))) words
-          → SetHolds S0 words' members' (color_to (counted n list table) (i + 1)).members
-      read_gives p q =
-          set_grows inv.set_holds (color_to (counted n list table) (i + 1)).members
-          (rw (← reads_are, set_pairs inv.set_holds) (joined_grows (color_to (counted n list table) i).members (reads_of table rec found))) members_fit
-          (q ∙ ap (λ ks. over (words_of ks) words) reads_are) (p ∙ ap length reads_are)
+          pub color_gives : {after : Allocs} {cs es : List ℕ} → SlicesAre s.count_regs i (record_step s.count_regs i statics regs rec (slices_in freed st.colours st.ends)) after cs es
+              → Holds s list table C0 E0 (i + 1) i (state after cs es)
+          color_gives {after} {cs} {es} =
+              subst (λ σ. SlicesAre s.count_regs i σ after cs es)
+              (rw (lent_are h, inv.walked.regs_are, inv.walked.statics_are, e) (record_step_lem s list table (passes inv.called) C0 E0 (wide inv.called) i l))
+
+        pub found_gives : {found : Bool} {after : State} → found ≡ was_found (dests rec) statics after.ends → Holds s list table C0 E0 (i + 1) i after → found ≡ found_at (setup s list table) i (color_to (setup s list table) i)
+        found_gives f h = f ∙ rw (h.ends, inv.walked.statics_are, e) (found_after s list table (passes inv.called) C0 E0 (wide inv.called) i l)
+
+        module _ {found : Bool} (f : found ≡ found_at (setup s list table) i (color_to (setup s list table) i)) where
+          -- what the record reads, in the definitions' words
+          pub reads_are : joined (members_in set) (reads_of table rec found) ≡ (color_to (setup s list table) (i + 1)).members
+          unfolding reads_at
+          reads_are = rw (add-one i, members_next (setup s list table) i, inv.set_holds.members, f, e) refl
+
+          pub read_room : length (joined (members_in set) (reads_of table rec found)) * 2 ≤ length set.words.now
+          read_room =
+              rw (reads_are, holds_length inv.set_holds, add-one i) (omega (arith, few_members s list table (passes inv.called) (suc i) (omega arith), inv.called.words_room))
+
+          pub read_gives : {set' : ReadSet} → SetHolds set' (joined (members_in set) (reads_of table rec found)) set.words.now → SetHolds set' (color_to (setup s list table) (i + 1)).members S0
+          read_gives h =
+              holds_more inv.set_holds (rw (← reads_are, inv.set_holds.members) (joined_grows (color_to (setup s list table) i).members (reads_of table rec found))) (rw reads_are at h)

@@ -1,6 +1,8 @@
 -- A record of a list that passes, on the lent slices: colouring it takes the slices of `color_to` at i to those at i + 1, its
 -- choices all pick a colour, and the marks of its statics say whether every destination was found.
 -- By the laws of destinations, and because a source's static is among those that have a colour.
+use Rattle.passes.specs.declared.symbol.Loc.{Loc}
+use Rattle.std.specs.Prelude.{Option, Some, None}
 use Prim.Native.Nat.{ℕ, zero, suc, ◌+◌, ◌-◌, ◌<◌, ◌≤◌}
 use mathlib.Core.Bool.{Bool, true, false, cond, ◌&&◌}
 use mathlib.Core.List.{List, [], ◌∷◌, ◌++◌, map}
@@ -14,13 +16,10 @@ use lib.ListN.{length, get_or, length-append}
 use lib.Seq.{get_or-append-add}
 use borrow.Author.Tests.{ltb-false}
 use Rattle.mir.specs.declared.config.Settings.{Settings}
-use Rattle.mir.specs.declared.rename.Current.{Current}
-use Rattle.mir.specs.declared.rename.Current.TheVariants.{Static, Unset}
 use Rattle.mir.specs.Records.{is_gen, records, record_at}
 use Rattle.mir.specs.Renaming.{one, gens, statics_to, regs_to}
 use Rattle.mir.specs.Shapes.{shape_for, dests, sources}
 use Rattle.mir.proofs.Passing.{ListPasses}
-use Rattle.passes.specs.declared.alloc.Held.{Held}
 use Rattle.passes.specs.Color.{Coloring, Setup, setup, colour_at, colour_of, source_word, held_by, want_x, want_y, wanted, update_allocs, loc_of, is_found, choice_for, after_dest, sources_at, dests_at, found_all, found_at, color_step, color_to}
 use Rattle.passes.specs.Create.{ends_of}
 use Rattle.theorems.proofs.Create.{In, names_to, ends_length, ends_below, statics_mono}
@@ -33,7 +32,7 @@ use Rattle.mir.proofs.Over.{over_get}
 use Rattle.coloring.proofs.Dests.{slices_same, marked_length, marked_at, mark_shows, dests_at_lem, ready_at}
 
 -- as many flags as statics
-founds_for_length : (n i : ℕ) (E : List ℕ) (ds : List (ℕ × Held)) (st : Coloring) → length (founds_for n i E ds st) ≡ gens (words ds)
+founds_for_length : (n i : ℕ) (E : List ℕ) (ds : List (ℕ × Option Loc)) (st : Coloring) → length (founds_for n i E ds st) ≡ gens (words ds)
 unfolding founds_for gens words
 founds_for_length n i E [] st = refl
 founds_for_length n i E (d ∷ ds) st =
@@ -46,14 +45,14 @@ founds_for_length n i E (d ∷ ds) st =
     go false = refl
 
 -- sources in colours: only those of the statics that the registers hold count
-module _ (regs : List Current) (cs ds : List ℕ) (h : (w t : ℕ) → get_or regs w Unset ≡ Static t → get_or cs t 0 ≡ get_or ds t 0) where
+module _ (regs : List (Option ℕ)) (cs ds : List ℕ) (h : (w t : ℕ) → get_or regs w None ≡ Some t → get_or cs t 0 ≡ get_or ds t 0) where
   same_source : (w : ℕ) → source_word regs cs w ≡ source_word regs ds w
-  same_source w = go (is_gen w) (get_or regs w Unset) refl
+  same_source w = go (is_gen w) (get_or regs w None) refl
     where
-      go : (b : Bool) (c : Current) → get_or regs w Unset ≡ c → cond b (colour_of c cs) w ≡ cond b (colour_of c ds) w
+      go : (b : Bool) (c : Option ℕ) → get_or regs w None ≡ c → cond b (colour_of c cs) w ≡ cond b (colour_of c ds) w
       go false c e = refl
-      go true Unset e = refl
-      go true (Static t) e = h w t e
+      go true None e = refl
+      go true (Some t) e = h w t e
 
   pub same_sources_in : (ws : List ℕ) → map (source_word regs cs) ws ≡ map (source_word regs ds) ws
   same_sources_in [] = refl
@@ -164,7 +163,7 @@ module _ (n i : ℕ) (E E0 : List ℕ) (fs : List Bool) (small : (k : ℕ) → k
   Agree k gs m = (j : ℕ) → j < m → get_or fs (k + j) false ≡ get_or gs j false
 
   -- past a destination that is not Gen none counts
-  flags_show : (ds : List (ℕ × Held)) (st : Coloring) (k : ℕ) → k + gens (words ds) ≤ length E → Agree k (founds_for n i E ds st) (gens (words ds))
+  flags_show : (ds : List (ℕ × Option Loc)) (st : Coloring) (k : ℕ) → k + gens (words ds) ≤ length E → Agree k (founds_for n i E ds st) (gens (words ds))
       → was_found (words ds) k (over (marked fs E) E0) ≡ found_all n i E ds st
   unfolding was_found found_all founds_for gens words
   flags_show [] st k h e = refl

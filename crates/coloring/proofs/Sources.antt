@@ -5,7 +5,7 @@ use mathlib.Core.Bool.{Bool, true, false, ◌&&◌, ◌||◌}
 use mathlib.Core.List.{List, [], ◌∷◌, map}
 use mathlib.Core.Path.{◌≡◌, refl}
 use lib.Dec.{eqb}
-use lib.ListN.{length, get_or, length-map, get_or-eq_default}
+use lib.ListN.{length, get_or, length-map}
 use native.Mathlib.Omega.{arith}
 use borrow.Author.Tests.{ltb-true, leb-true, eqb-true}
 use Rattle.mir.specs.Questions.{fields_fit, partner_fits}
@@ -23,9 +23,6 @@ use Rattle.mir.proofs.Words.{window_at}
 
 module _ (rec : List ℕ) (len : length rec ≡ 8) where
   module _ (f : ℕ → ℕ) (j : ℕ) where
-    pub source_none : (shape_for rec).srcs ≤ j → get_or (map f (sources rec)) j 0 ≡ 0
-    source_none h = get_or-eq_default (map f (sources rec)) 0 (rw (length-map (sources rec) f, sources_length rec len) h)
-
     pub source_word_lem : j < (shape_for rec).srcs → get_or (map f (sources rec)) j 0 ≡ f (word_at rec ((shape_for rec).regs + (shape_for rec).dsts + j))
     unfolding sources
     source_word_lem h =

@@ -1,16 +1,14 @@
 -- Inner: what the third walk does to the colours' state and the lent slices.
-use Rattle.std.specs.Prelude.{ℕ, zero, suc, ◌+◌, ◌<◌, Bool, true, cond, ◌&&◌, not, List, [], ◌∷◌, ◌++◌, map, ◌≡◌, leb, eqb, length, get_or, set}
+use Rattle.std.specs.Prelude.{ℕ, zero, suc, ◌+◌, ◌<◌, Bool, true, cond, ◌&&◌, not, List, [], ◌∷◌, ◌++◌, map, ◌≡◌, leb, eqb, length, get_or, set, Option}
 use Rattle.mir.specs.declared.config.Settings.{Settings}
-use Rattle.mir.specs.declared.rename.Current.{Current}
 use Rattle.mir.specs.Records.{records, is_gen, word_at}
 use Rattle.mir.specs.Renaming.{one}
 use Rattle.mir.specs.Shapes.{shape_for, dests, sources}
-use Rattle.colours.specs.declared.masks.Masks.{Masks}
+use Rattle.colours.specs.declared.allocs.Allocs.{Allocs}
 use Rattle.colours.specs.Colours.{allocs_in, Stands}
 use Rattle.passes.specs.declared.alloc.Alloc.{Alloc}
 use Rattle.passes.specs.declared.alloc.Choice.{Choice}
 use Rattle.passes.specs.declared.alloc.Choice.TheVariants.{Found, Free, Empty}
-use Rattle.passes.specs.declared.alloc.Held.{Held}
 use Rattle.passes.specs.declared.symbol.Loc.{Loc}
 use Rattle.passes.specs.Color.{Coloring, Setup, setup, choice_for, after_dest, dests_at, color_to, choose, chosen, assign, is_found, source_word}
 use Rattle.passes.specs.Color.{held_by, want_x, want_y, wanted, update_allocs, loc_of, reads, pairs_from}
@@ -25,13 +23,13 @@ pub record Slices : Type 0 where
 abbrev pub slices : List Alloc → List ℕ → List ℕ → Slices
 slices allocs colours ends = record { allocs = allocs; colours = colours; ends = ends }
 
--- what is lent to a step: the colours' lives and locations, and the two slices
-abbrev pub slices_in : List ℕ → List ℕ → List ℕ → List ℕ → Slices
-slices_in lives locs colours ends = slices (allocs_in lives locs) colours ends
+-- what is lent to a step: the colours, and the two slices
+abbrev pub slices_in : Allocs → List ℕ → List ℕ → Slices
+slices_in a colours ends = slices (allocs_in a.lives a.locs) colours ends
 
 -- what is lent is these slices, and the masks tell of their colours at instruction i
-pub record SlicesAre (n i : ℕ) (σ : Slices) (m : Masks) (lives locs words marked : List ℕ) : Type 0 where
-  pub allocs : Stands n i m lives locs σ.allocs
+pub record SlicesAre (n i : ℕ) (σ : Slices) (a : Allocs) (words marked : List ℕ) : Type 0 where
+  pub allocs : Stands n i a σ.allocs
   pub colours : words ≡ σ.colours
   pub ends : marked ≡ σ.ends
 
@@ -40,7 +38,7 @@ abbrev pub mark : Bool → ℕ
 mark found = cond found 65536 0
 
 -- one destination, `next` being its static
-unfoldable pub dest_step : ℕ → ℕ → ℕ → ℕ → Held → Slices → Slices
+unfoldable pub dest_step : ℕ → ℕ → ℕ → ℕ → Option Loc → Slices → Slices
 dest_step n i next w held σ =
     let choice = choose n i held σ.allocs in
     cond (is_gen w)
@@ -51,7 +49,7 @@ dest_step n i next w held σ =
     })
     σ
 
-unfoldable pub dest_steps : ℕ → ℕ → ℕ → List (ℕ × Held) → Slices → Slices
+unfoldable pub dest_steps : ℕ → ℕ → ℕ → List (ℕ × Option Loc) → Slices → Slices
 dest_steps n i next [] σ = σ
 dest_steps n i next (d ∷ ds) σ = dest_steps n i (next + one d.0) ds (dest_step n i next d.0 d.1 σ)
 
@@ -62,10 +60,10 @@ Picks (Free c) = Unit {0}
 Picks Empty = ⊥
 
 -- the choice of a destination picks a colour, for a static whose end is not marked; and so does each choice of the destinations
-abbrev pub ReadyFor : ℕ → ℕ → ℕ → ℕ → Held → Slices → Type 0
+abbrev pub ReadyFor : ℕ → ℕ → ℕ → ℕ → Option Loc → Slices → Type 0
 ReadyFor n i next w held σ = is_gen w ≡ true → Picks (choose n i held σ.allocs) × (get_or σ.ends next 0 < 65536)
 
-abbrev pub Ready : ℕ → ℕ → ℕ → List (ℕ × Held) → Slices → Type 0
+abbrev pub Ready : ℕ → ℕ → ℕ → List (ℕ × Option Loc) → Slices → Type 0
 Ready n i next [] σ = Unit {0}
 Ready n i next (d ∷ ds) σ =
     ReadyFor n i next d.0 d.1 σ × Ready n i (next + one d.0) ds (dest_step n i next d.0 d.1 σ)
@@ -75,16 +73,16 @@ abbrev pub Coloured : ℕ → List ℕ → Type 0
 Coloured n ws = (j : ℕ) → j < length ws → get_or ws j 0 < 256 → get_or ws j 0 < n
 
 -- one record
-abbrev pub source_words : List Current → List ℕ → List ℕ → List ℕ
+abbrev pub source_words : List (Option ℕ) → List ℕ → List ℕ → List ℕ
 source_words regs colours rec = map (source_word regs colours) (sources rec)
 
-abbrev pub wanted_by : List Current → List ℕ → Slices → List (ℕ × Held)
+abbrev pub wanted_by : List (Option ℕ) → List ℕ → Slices → List (ℕ × Option Loc)
 wanted_by regs rec σ =
     wanted (dests rec)
     (want_x (shape_for rec).action (loc_of rec) (held_by σ.allocs (get_or (source_words regs σ.colours rec) 0 0)))
     (want_y (shape_for rec).action (loc_of rec))
 
-unfoldable pub record_step : ℕ → ℕ → ℕ → List Current → List ℕ → Slices → Slices
+unfoldable pub record_step : ℕ → ℕ → ℕ → List (Option ℕ) → List ℕ → Slices → Slices
 record_step n i next regs rec σ =
     let srcs = source_words regs σ.colours rec in
     let given = dest_steps n i next (wanted_by regs rec σ) σ in
@@ -105,7 +103,7 @@ reads_of table rec found =
     reads (shape_for rec).action found (loc_of rec) (pairs_from table (word_at rec 1) (word_at rec 2)) (not (eqb (shape_for rec).loc 0))
 
 -- the statics whose location was found, in order: those of a record's destinations, and those before record i
-unfoldable pub founds_for : ℕ → ℕ → List ℕ → List (ℕ × Held) → Coloring → List Bool
+unfoldable pub founds_for : ℕ → ℕ → List ℕ → List (ℕ × Option Loc) → Coloring → List Bool
 founds_for n i ends [] st = []
 founds_for n i ends (d ∷ ds) st =
     cond (is_gen d.0) (is_found (choice_for n i d.1 st) ∷ []) [] ++ founds_for n i ends ds (after_dest n i ends d.0 d.1 st)

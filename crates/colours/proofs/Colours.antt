@@ -1,5 +1,6 @@
 -- The code's colours stand for the definitions': a read, a store, and what the words of locations say.
 -- By induction on the two arrays; a word is its space and its index, by division.
+use Rattle.std.specs.Prelude.{Some, None}
 use Prim.Native.Nat.{ℕ, zero, suc, ◌/◌, ◌%◌, ◌<◌}
 use mathlib.Core.Bool.{Bool, true, false, cond, ◌&&◌}
 use mathlib.Core.List.{List, [], ◌∷◌}
@@ -7,14 +8,12 @@ use mathlib.Core.Path.{◌≡◌, refl, sym, ap, subst, ◌∙◌}
 use native.Mathlib.Omega.{arith}
 use lib.Dec.{eqb}
 use lib.ListN.{length, get_or, set}
-use lib.Seq.{set-get_or}
 use borrow.Author.Tests.{ltb-true, ne_eqb, eqb-true, eqb-false}
 use Rattle.mir.specs.Records.{is_gen, max_regs}
 use Rattle.passes.specs.declared.alloc.Alloc.{Alloc}
-use Rattle.passes.specs.declared.alloc.Held.TheVariants.{Nothing, At}
 use Rattle.passes.specs.declared.symbol.Loc.{Loc}
 use Rattle.passes.specs.Color.{alloc, colour_at, held_by, holds, is_nothing}
-use Rattle.colours.specs.declared.masks.Masks.{Masks}
+use Rattle.colours.specs.declared.allocs.Allocs.{Allocs}
 use Rattle.colours.specs.Colours.{nothing, loc_in, held_in, allocs_in, Stands}
 
 -- ---- the words of locations
@@ -22,12 +21,12 @@ use Rattle.colours.specs.Colours.{nothing, loc_in, held_in, allocs_in, Stands}
 pub bare_word : (k : ℕ) → is_nothing (held_in k) ≡ eqb k nothing
 bare_word k = go (eqb k nothing)
   where
-    go : (b : Bool) → is_nothing (cond b Nothing (At (loc_in k))) ≡ b
+    go : (b : Bool) → is_nothing (cond b None (Some (loc_in k))) ≡ b
     go true = refl
     go false = refl
 
-pub held_word : {k : ℕ} {l : Loc} → loc_in k ≡ l → (k ≡ nothing → ⊥) → held_in k ≡ At l
-held_word {k} e some = rw (ne_eqb k nothing some) (ap At e)
+pub held_word : {k : ℕ} {l : Loc} → loc_in k ≡ l → (k ≡ nothing → ⊥) → held_in k ≡ Some l
+held_word {k} e some = rw (ne_eqb k nothing some) (ap Some e)
 
 -- a word that is a location is held where the words are equal
 pub holds_word : (k l : ℕ) → (l ≡ nothing → ⊥) → holds (held_in k) (loc_in l) ≡ eqb k l
@@ -42,7 +41,7 @@ holds_word k l some = go (eqb k nothing) refl
     parts false b false e f g = refl
     parts false b true e f g = absurd (eqb-false (k / 4294967296) (l / 4294967296) e (ap (λ x. x / 4294967296) (eqb-true k l g)))
 
-    go : (b : Bool) → eqb k nothing ≡ b → holds (cond b Nothing (At (loc_in k))) (loc_in l) ≡ eqb k l
+    go : (b : Bool) → eqb k nothing ≡ b → holds (cond b None (Some (loc_in k))) (loc_in l) ≡ eqb k l
     go true e = sym (ne_eqb k l (λ q. some (sym q ∙ eqb-true k nothing e)))
     go false e = parts (eqb (k / 4294967296) (l / 4294967296)) (eqb (k % 4294967296) (l % 4294967296)) (eqb k l) refl refl refl
 
@@ -63,22 +62,19 @@ allocs_set (y ∷ ys) [] (suc c) x k = refl
 allocs_set (y ∷ ys) (j ∷ js) zero x k = refl
 allocs_set (y ∷ ys) (j ∷ js) (suc c) x k = ap (λ r. alloc y (held_in j) ∷ r) (allocs_set ys js c x k)
 
-pub allocs_set_loc : (lives locs : List ℕ) (c k : ℕ) → allocs_in lives (set locs c k) ≡ set (allocs_in lives locs) c (alloc (get_or lives c 0) (held_in k))
-allocs_set_loc lives locs c k = ap (λ r. allocs_in r (set locs c k)) (sym (set-get_or lives c 0)) ∙ allocs_set lives locs c (get_or lives c 0) k
-
-module _ {n i : ℕ} {m : Masks} {lives locs : List ℕ} {allocs : List Alloc} (s : Stands n i m lives locs allocs) where
-  pub stands_at : (c : ℕ) → c < max_regs → colour_at allocs c ≡ alloc (get_or lives c 0) (held_in (get_or locs c 0))
+module _ {n i : ℕ} {a : Allocs} {allocs : List Alloc} (s : Stands n i a allocs) where
+  pub stands_at : (c : ℕ) → c < max_regs → colour_at allocs c ≡ alloc (get_or a.lives c 0) (held_in (get_or a.locs c 0))
   stands_at c h =
       let e = s.same in
-      ap (λ r. colour_at r c) (sym e) ∙ allocs_at lives locs c (rw (e, s.masked.size) h)
+      ap (λ r. colour_at r c) (sym e) ∙ allocs_at a.lives a.locs c (rw (e, s.masked.size) h)
 
-  pub stands_as : {other : List Alloc} → allocs ≡ other → Stands n i m lives locs other
-  stands_as e = subst (Stands n i m lives locs) e s
+  pub stands_as : {other : List Alloc} → allocs ≡ other → Stands n i a other
+  stands_as e = subst (Stands n i a) e s
 
   -- the location of a coloured word's colour, by its word
-  pub held_by_word : (w : ℕ) → (w < 256 → w < max_regs) → held_in (cond (is_gen w) (get_or locs w 0) nothing) ≡ held_by allocs w
+  pub held_by_word : (w : ℕ) → (w < 256 → w < max_regs) → held_in (cond (is_gen w) (get_or a.locs w 0) nothing) ≡ held_by allocs w
   held_by_word w small = go (is_gen w) refl
     where
-      go : (b : Bool) → is_gen w ≡ b → held_in (cond b (get_or locs w 0) nothing) ≡ cond b (colour_at allocs w).loc Nothing
-      go true g = sym (ap (λ (a : Alloc). a.loc) (stands_at w (small (ltb-true w 256 g))))
+      go : (b : Bool) → is_gen w ≡ b → held_in (cond b (get_or a.locs w 0) nothing) ≡ cond b (colour_at allocs w).loc None
+      go true g = sym (ap (λ (x : Alloc). x.loc) (stands_at w (small (ltb-true w 256 g))))
       go false g = refl

@@ -6,26 +6,17 @@ use mathlib.Core.Path.{◌≡◌, refl, sym, ap, ◌∙◌}
 use native.Mathlib.Nat.{zero-add, suc-add}
 use native.Mathlib.Numerals.{add-one}
 use native.Mathlib.Omega.{arith}
-use lib.ListN.{length, get_or, set, take, drop, length-append, length-map, take-append-drop, drop_of_length-le}
+use Rattle.std.proofs.lemmas.List.{map-append}
+use lib.ListN.{length, get_or, set, take, drop, length-map, drop_of_length-le}
 use lib.Seq.{length-take-le, take_all, drop-cons, take-suc, append_snoc, set_at, get_or_at, set-get_or}
 
 module _ {ℓ} {A : Type ℓ} (f : A → A) where
-  pub map_snoc : (ys : List A) (y : A) → map f (ys ++ y ∷ []) ≡ map f ys ++ f y ∷ []
-  map_snoc [] y = refl
-  map_snoc (z ∷ ys) y = ap (λ r. f z ∷ r) (map_snoc ys y)
-
   pub mapped_to : List A → ℕ → List A
   mapped_to xs c = map f (take c xs) ++ drop c xs
 
   pub mapped_zero : (xs : List A) → xs ≡ mapped_to xs 0
   unfolding mapped_to
   mapped_zero xs = refl
-
-  pub mapped_length : (xs : List A) (c : ℕ) → length (mapped_to xs c) ≡ length xs
-  unfolding mapped_to
-  mapped_length xs c =
-      length-append (map f (take c xs)) (drop c xs)
-      ∙ (ap (λ k. k + length (drop c xs)) (length-map (take c xs) f) ∙ (sym (length-append (take c xs) (drop c xs)) ∙ ap length (take-append-drop c xs)))
 
   head_length : (xs : List A) (c : ℕ) → c < length xs → length (map f (take c xs)) ≡ c
   head_length xs c h = length-map (take c xs) f ∙ length-take-le c xs (omega arith)
@@ -43,7 +34,7 @@ module _ {ℓ} {A : Type ℓ} (f : A → A) where
       (ap (λ r. set (map f (take c xs) ++ r) c (f (get_or xs c d))) (drop-cons xs c d h)
       ∙ (set_at (map f (take c xs)) (get_or xs c d) (drop (suc c) xs) (f (get_or xs c d)) c (head_length xs c h)
       ∙ (sym (append_snoc (map f (take c xs)) (f (get_or xs c d)) (drop (suc c) xs))
-      ∙ ap (λ r. r ++ drop (suc c) xs) (sym (map_snoc (take c xs) (get_or xs c d)) ∙ ap (map f) (sym (take-suc xs c d h))))))
+      ∙ ap (λ r. r ++ drop (suc c) xs) (sym (map-append f (take c xs) (get_or xs c d ∷ [])) ∙ ap (map f) (sym (take-suc xs c d h))))))
 
   pub mapped_all : (xs : List A) (c : ℕ) → length xs ≤ c → mapped_to xs c ≡ map f xs
   unfolding mapped_to

@@ -1,6 +1,7 @@
 -- What the words and the masks say, by computation: bits at both ends of a word, words of locations at their limits, which coloured words are
 -- colours; and of two colours, one with a location, what each bit of both masks must be, and that there are such masks.
 -- The bits past the second by the law of digits past a word's.
+use Rattle.std.specs.Prelude.{Some, None}
 use Prim.Native.Nat.{ℕ, zero, suc, ◌<◌, ◌≤◌}
 use mathlib.Core.Bool.{true, false, not}
 use mathlib.Core.List.{List, [], ◌∷◌}
@@ -8,7 +9,6 @@ use mathlib.Core.Path.{◌≡◌, refl, sym, ap, ◌∙◌}
 use native.Mathlib.Omega.{arith}
 use lib.ListN.{replicate}
 use Rattle.passes.specs.declared.alloc.Alloc.{Alloc}
-use Rattle.passes.specs.declared.alloc.Held.TheVariants.{Nothing, At}
 use Rattle.passes.specs.Color.{alloc, loc, colour_at, is_nothing}
 use Rattle.theorems.proofs.Locations.{blank_at}
 use Rattle.colours.specs.declared.masks.Masks.{Masks}
@@ -22,8 +22,8 @@ pub bit_cases : (has_bit 0 0 ≡ false) × (has_bit 1 0 ≡ true) × (has_bit 1 
 bit_cases = (refl, refl, refl, refl, refl, refl, refl, refl, refl, refl)
 
 -- the first and the last index of a space, the next space, the last word that is a location, and the word for none
-pub word_cases : (held_in 0 ≡ At (loc 0 0)) × (held_in 4294967295 ≡ At (loc 0 4294967295)) × (held_in 4294967296 ≡ At (loc 1 0)) × (held_in 8589934599 ≡ At (loc 2 7))
-    × (held_in 18446744073709551614 ≡ At (loc 4294967295 4294967294)) × (held_in 18446744073709551615 ≡ Nothing)
+pub word_cases : (held_in 0 ≡ Some (loc 0 0)) × (held_in 4294967295 ≡ Some (loc 0 4294967295)) × (held_in 4294967296 ≡ Some (loc 1 0)) × (held_in 8589934599 ≡ Some (loc 2 7))
+    × (held_in 18446744073709551614 ≡ Some (loc 4294967295 4294967294)) × (held_in 18446744073709551615 ≡ None)
 word_cases = (refl, refl, refl, refl, refl, refl)
 
 -- a named register is no colour
@@ -31,14 +31,14 @@ pub in_cases : (is_in 0 [] ≡ false) × (is_in 3 (3 ∷ []) ≡ true) × (is_in
 unfolding is_in
 in_cases = (refl, refl, refl, refl, refl, refl)
 
-pub allocs_cases : (allocs_in [] (7 ∷ []) ≡ []) × (allocs_in (7 ∷ []) [] ≡ []) × (allocs_in (5 ∷ 3 ∷ []) (4294967303 ∷ 18446744073709551615 ∷ []) ≡ alloc 5 (At (loc 1 7)) ∷ alloc 3 Nothing ∷ [])
+pub allocs_cases : (allocs_in [] (7 ∷ []) ≡ []) × (allocs_in (7 ∷ []) [] ≡ []) × (allocs_in (5 ∷ 3 ∷ []) (4294967303 ∷ 18446744073709551615 ∷ []) ≡ alloc 5 (Some (loc 1 7)) ∷ alloc 3 None ∷ [])
 unfolding allocs_in
 allocs_cases = (refl, refl, refl)
 
 -- ---- two colours of 64: the first is needed up to 5 and holds a location, the second up to 3
 
 abbrev two : List Alloc
-two = alloc 5 (At (loc 1 7)) ∷ alloc 3 Nothing ∷ replicate 62 (alloc 0 Nothing)
+two = alloc 5 (Some (loc 1 7)) ∷ alloc 3 None ∷ replicate 62 (alloc 0 None)
 
 -- bit by bit, at instructions 2 to 5: a colour is free from its life on
 pub masked_told : (m : Masks) → Masked 2 4 m two → (has_bit m.held 0 ≡ true) × (has_bit m.held 1 ≡ false) × (has_bit m.held 2 ≡ false) × (has_bit m.held 63 ≡ false)

@@ -2,7 +2,7 @@
 ghost use Rattle.std.specs.Prelude.{ℕ, ◌<◌, ◌≤◌, ◌^◌, cond, ◌≡◌, eqb, ltb};
 ghost use Rattle.mir.specs.Records.{max_regs};
 ghost use Rattle.passes.specs.Color.{first_below};
-ghost use Rattle.colours.specs.Masks.{has_bit, placed};
+ghost use Rattle.colours.specs.Masks.{has_bit};
 
 #[derive(Clone, Copy)]
 pub struct Masks {
@@ -10,13 +10,6 @@ pub struct Masks {
     pub free: u64,
     // The colours that hold a location.
     pub held: u64,
-}
-
-// The first colour that was looked for, if there is one.
-#[derive(Clone, Copy)]
-pub enum Position {
-    At(u32),
-    Nowhere,
 }
 
 // The bit of colour `c`.
@@ -44,11 +37,11 @@ pub fn first_bits(n: usize) -> u64
 }
 
 // The lowest bit that is set. A mask without one has 64 trailing zeros.
-pub fn lowest(mask: u64) -> Position
-    ensures { placed result ≡ first_below (has_bit mask) max_regs }
+pub fn lowest(mask: u64) -> Option<u32>
+    ensures { result ≡ first_below (has_bit mask) max_regs }
 {
     if mask == 0 {
-        return Position::Nowhere;
+        return None;
     }
-    Position::At(u64::trailing_zeros(mask))
+    Some(u64::trailing_zeros(mask))
 }

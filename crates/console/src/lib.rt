@@ -1,19 +1,40 @@
 // Standard input and output of the programs: words that are read, and what reducing a file gives, as text.
 #![tactic(auto)]
 
-ghost use Rattle.std.specs.Prelude.{◌*◌, ◌+◌, ◌≤◌, length, IfOk};
+ghost use Rattle.std.specs.Prelude.{◌≡◌, ◌≤◌, min, length, IfOk, IfSome};
+ghost use Rattle.file.specs.File.{word_in};
 
-use allocator::Answer;
-use file::layout::word_at;
 use file::reduce::reduce_file;
-use std::io;
 use std::io::{Read, Write};
+use std::{fmt, io};
 use walks::Counts;
 
 // The longest file that can be well formed, and a word more, so that a longer one shows.
 pub const FILE: usize = 20_512;
 
-// Reads until `buf` is full or the input ends, and answers how many bytes now stand at its start.
+// The words of a record.
+const RECORD: usize = 8;
+
+// The next word of the input, lowest byte first; what is past its end counts as 0.
+pub fn word<R: Read>(input: &mut R) -> io::Result<u32>
+    ensures { IfOk result (λ w. IfSome (R.remaining input.old) (λ bytes. w ≡ word_in bytes 0)) }
+{
+    let mut bytes = [0; 4];
+    input.chain(&[0; 4][..]).read_exact(&mut bytes)?;
+    Ok(u32::from_le_bytes(bytes))
+}
+
+// The next word as a length, but at most `most`.
+pub fn length_to<R: Read>(input: &mut R, most: usize) -> io::Result<usize>
+    ensures bound { IfOk result (λ n. n ≤ most) }
+    ensures value { IfOk result (λ n. IfSome (R.remaining input.old) (λ bytes. n ≡ min (word_in bytes 0) most)) }
+{
+    let n = word(input)? as usize;
+    Ok(n.min(most))
+}
+
+// Reads until `buf` is full or the input ends, and answers how many bytes now stand at its start. No method of std does so
+// without the heap: `read_exact` does not say how many it read, and `read_to_end` takes a `Vec`.
 fn read_full(input: &mut impl Read, buf: &mut [u8]) -> io::Result<usize>
     ensures { IfOk result (λ n. n ≤ length buf.new) }
 {
@@ -28,87 +49,48 @@ fn read_full(input: &mut impl Read, buf: &mut [u8]) -> io::Result<usize>
     Ok(done)
 }
 
-// The next word of the input, lowest byte first; 0 past its end.
-pub fn word(input: &mut impl Read) -> io::Result<u32> {
-    let mut b = [0u8; 4];
-    read_full(input, &mut b)?;
-    Ok(word_at(&b, 0))
-}
+// A record as text: its words, with a blank between each two.
+#[derive(Clone, Copy)]
+struct Record<'a>(&'a [u32; RECORD]);
 
-// The next word as a length, but at most `most`.
-pub fn length_to(input: &mut impl Read, most: usize) -> io::Result<usize>
-    ensures { IfOk result (λ n. n ≤ most) }
-{
-    let n = word(input)? as usize;
-    if n < most {
-        return Ok(n);
+impl fmt::Display for Record<'_> {
+    fn fmt<W: fmt::Write>(&self, f: &mut fmt::Formatter<W>) -> fmt::Result {
+        let words = self.0;
+        write!(f, "{}", words[0])?;
+        for word in &words[1..] {
+            write!(f, " {word}")?;
+        }
+        Ok(())
     }
-    Ok(most)
 }
 
-pub fn print_number(out: &mut impl Write, n: u32) -> io::Result<()> {
-    write!(out, "{n}")
+// A reduced list as text: a record a line, and then what was dropped.
+#[derive(Clone, Copy)]
+struct Reduced<'a> {
+    records: &'a [[u32; RECORD]],
+    counts: Counts,
 }
 
-pub fn print_text(out: &mut impl Write, text: &[u8]) -> io::Result<()> {
-    out.write_all(text)
-}
-
-// The eight words from `at` on, on a line.
-fn print_record(out: &mut impl Write, words: &[u32], at: usize) -> io::Result<()>
-    requires { at + 8 ≤ length words.now }
-{
-    print_number(out, words[at])?;
-    let mut p = 1;
-    while p < 8 {
-        print_text(out, b" ")?;
-        print_number(out, words[at + p])?;
-        p += 1;
+impl fmt::Display for Reduced<'_> {
+    fn fmt<W: fmt::Write>(&self, f: &mut fmt::Formatter<W>) -> fmt::Result {
+        for record in self.records {
+            writeln!(f, "{}", Record(record))?;
+        }
+        let c = self.counts;
+        writeln!(f, "dropped {} {} {} {}", c.nops, c.loads, c.moves, c.saves)
     }
-    print_text(out, b"\n")
-}
-
-// A record a line.
-fn print_records(out: &mut impl Write, words: &[u32], count: usize) -> io::Result<()>
-    requires { count * 8 ≤ length words.now }
-{
-    let mut i = 0;
-    while i < count {
-        print_record(out, words, i * 8)?;
-        i += 1;
-    }
-    Ok(())
-}
-
-fn print_dropped(out: &mut impl Write, c: Counts) -> io::Result<()> {
-    print_text(out, b"dropped ")?;
-    print_number(out, c.nops)?;
-    print_text(out, b" ")?;
-    print_number(out, c.loads)?;
-    print_text(out, b" ")?;
-    print_number(out, c.moves)?;
-    print_text(out, b" ")?;
-    print_number(out, c.saves)?;
-    print_text(out, b"\n")
-}
-
-fn print_refused(out: &mut impl Write, number: u32, index: u32) -> io::Result<()> {
-    print_text(out, b"refused ")?;
-    print_number(out, number)?;
-    print_text(out, b" at ")?;
-    print_number(out, index)?;
-    print_text(out, b"\n")
 }
 
 // What reducing a file gives: a record a line and what was dropped, or the refusal.
 pub fn show(out: &mut impl Write, file: &[u8]) -> io::Result<()> {
-    let mut words = [0u32; 4096];
+    let mut words = [0; 4096];
     match reduce_file(file, &mut words) {
-        Answer::Reduced(c) => {
-            print_records(out, &words, c.records as usize)?;
-            print_dropped(out, c)
+        Ok(counts) => {
+            let (records, _) = words.as_chunks();
+            let records = &records[..counts.records as usize];
+            write!(out, "{}", Reduced { records, counts })
         }
-        Answer::Refused(number, index) => print_refused(out, number, index),
+        Err(refusal) => writeln!(out, "{refusal}"),
     }
 }
 

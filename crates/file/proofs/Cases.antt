@@ -5,7 +5,7 @@ use mathlib.Core.Bool.{true, false}
 use mathlib.Core.List.{List, [], ◌∷◌}
 use mathlib.Core.Path.{◌≡◌, refl}
 use lib.ListN.{length, replicate}
-use Rattle.mir.specs.declared.questions.Verdict.TheVariants.{Passed, Refused}
+use Rattle.mir.specs.Answers.{Passed, Refused}
 use Rattle.mir.specs.Folds.{first_refusal}
 use Rattle.mir.specs.Questions.{refusal, record_refusal, branch_refusal, few_registers, few_args, well_sized}
 use Rattle.file.specs.File.{flag, word_in, words_in, bytes_of, settings_in, pair_count, table_in, record_count, list_in, well_formed}

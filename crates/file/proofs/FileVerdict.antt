@@ -9,8 +9,8 @@ use lib.ListN.{length}
 use Rattle.walks.specs.declared.Counts.{Counts}
 use Rattle.walks.specs.Lent.{values_in}
 use Rattle.allocator.proofs.Promise.{reduced_words, passing_with}
-use Rattle.mir.specs.declared.questions.Verdict.{Verdict}
-use Rattle.mir.specs.declared.questions.Verdict.TheVariants.{Passed, Refused}
+use Rattle.mir.specs.Answers.{Verdict}
+use Rattle.mir.specs.Answers.{Passed, Refused}
 use Rattle.mir.specs.Answers.{answered, unless}
 use Rattle.mir.specs.Questions.{refusal}
 use Rattle.mir.specs.Records.{records, fixed_mark}
@@ -22,8 +22,8 @@ use Rattle.passes.specs.Contract.{counts_of, count_of}
 use Rattle.passes.specs.Machine.{Passing, Preserves}
 use Rattle.theorems.proofs.Lengths.{counts_add}
 use Rattle.theorems.proofs.Preserved.{list_preserved}
-use Rattle.file.specs.declared.layout.Layout.TheVariants as layout
-use Rattle.file.specs.File.{settings_in, pair_count, record_count, table_in, list_in, well_formed, layout_of, file_verdict, file_counts, file_reduced}
+use Rattle.std.specs.Prelude.{Some, None}
+use Rattle.file.specs.File.{settings_in, pair_count, record_count, table_in, list_in, well_formed, counted, layout_of, file_verdict, file_counts, file_reduced}
 use Rattle.file.proofs.Sections.{Sections, list_length}
 
 -- a file that is well formed
@@ -33,11 +33,11 @@ unfolding file_verdict
 good_verdict h room = rw h.well
 
 -- a file that is not well formed
-pub bad_verdict : (room : Bool) (file : List ℕ) → layout_of file ≡ layout.Bad → file_verdict room file ≡ Refused 3 0
+pub bad_verdict : (room : Bool) (file : List ℕ) → layout_of file ≡ None → file_verdict room file ≡ Refused 3 0
 unfolding file_verdict layout_of
 bad_verdict room file e = go (well_formed file) e
   where
-    go : (b : Bool) → cond b (layout.Counts (pair_count file) (record_count file)) layout.Bad ≡ layout.Bad
+    go : (b : Bool) → cond b (Some (counted (pair_count file) (record_count file))) None ≡ None
         → cond b (refusal room (settings_in file) (list_in file) (table_in file)) (Refused 3 0) ≡ Refused 3 0
     go false q = refl
     go true q = clash (cc)

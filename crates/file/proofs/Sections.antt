@@ -4,13 +4,15 @@ use Prim.Native.Nat.{ℕ, ◌+◌, ◌*◌, ◌≤◌}
 use mathlib.Core.Bool.{Bool, true, false, cond}
 use mathlib.Core.List.{List}
 use mathlib.Core.Path.{◌≡◌, refl}
-use lib.ListN.{length}
+use lib.ListN.{length, replicate}
 use borrow.Author.Tests.{leb-true, le-leb, eqb-true, eq-eqb}
 use Rattle.mir.proofs.Clash.{clash}
 use Rattle.mir.proofs.Renaming.{and_both}
-use Rattle.file.specs.declared.layout.Layout.TheVariants.{Counts, Bad}
-use Rattle.file.specs.File.{words_in, pair_count, record_count, table_in, list_in, well_formed, layout_of}
-use Rattle.file.proofs.layout.Bytes.{words_length}
+use Rattle.std.specs.Prelude.{Some, None}
+use Rattle.file.specs.declared.layout.Layout.{Layout}
+use Rattle.file.specs.File.{words_in, pair_count, record_count, table_in, list_in, well_formed, counted, layout_of}
+use Rattle.mir.specs.Answers.{over}
+use Rattle.file.proofs.layout.Bytes.{words_length, Read, read}
 
 pub record Sections (file : List ℕ) (pairs records : ℕ) : Type 0 where
   pub well : well_formed file ≡ true
@@ -34,29 +36,28 @@ well_sections w =
       size = eqb-true _ _ b.1;
     }
 
-pub sections : {file : List ℕ} {pairs records : ℕ} → layout_of file ≡ Counts pairs records → Sections file pairs records
+pub sections : {file : List ℕ} {layout : Layout} → layout_of file ≡ Some layout → Sections file layout.pairs layout.records
 unfolding layout_of
-sections {file} {pairs} {records} e = go (well_formed file) refl e
+sections {file} {layout} e = go (well_formed file) refl e
   where
-    go : (b : Bool) → well_formed file ≡ b → cond b (Counts (pair_count file) (record_count file)) Bad ≡ Counts pairs records → Sections file pairs records
+    go : (b : Bool) → well_formed file ≡ b → cond b (Some (counted (pair_count file) (record_count file))) None ≡ Some layout → Sections file layout.pairs layout.records
     go false w q = clash (cc)
     go true w q =
-        let p : pairs ≡ pair_count file = cc in
-        let r : records ≡ record_count file = cc in
-        rw (p, r) (well_sections w)
+        let p : counted (pair_count file) (record_count file) ≡ layout = cc in
+        rw (← p) (well_sections w)
 
 -- a file with a count over 512, or of another length
-pub layout_bad : (file : List ℕ) → (Sections file (pair_count file) (record_count file) → ⊥) → Bad ≡ layout_of file
+pub layout_bad : (file : List ℕ) → (Sections file (pair_count file) (record_count file) → ⊥) → None ≡ layout_of file
 unfolding layout_of
 layout_bad file h = go (well_formed file) refl
   where
-    go : (b : Bool) → well_formed file ≡ b → Bad ≡ cond b (Counts (pair_count file) (record_count file)) Bad
+    go : (b : Bool) → well_formed file ≡ b → None ≡ cond b (Some (counted (pair_count file) (record_count file))) None
     go false w = refl
     go true w = absurd (h (well_sections w))
 
 -- any other
 pub layout_good : (file : List ℕ) → pair_count file ≤ 512 → record_count file ≤ 512 → length file ≡ (7 + pair_count file * 2 + record_count file * 8) * 4
-    → Counts (pair_count file) (record_count file) ≡ layout_of file
+    → Some (counted (pair_count file) (record_count file)) ≡ layout_of file
 unfolding layout_of well_formed
 layout_good file p r l = rw (le-leb (pair_count file) 512 p, le-leb (record_count file) 512 r, eq-eqb (length file) _ l)
 
@@ -72,3 +73,13 @@ module _ {file : List ℕ} {pairs records : ℕ} (h : Sections file pairs record
 
   pub list_length : length (list_in file) ≡ records * 8
   list_length = cc (list_is, words_length file (7 + pairs * 2) (records * 8))
+
+-- the table and the list as they are read into a space of zeros
+pub table_read : (file : List ℕ) {out : List ℕ} (layout : Layout) → layout_of file ≡ Some layout
+    → out ≡ over (words_in file 6 (layout.pairs * 2)) (replicate 1024 0) → Read (table_in file) (layout.pairs * 2) out
+table_read file layout found e = read file 6 (layout.pairs * 2) (replicate 1024 0) (table_is (sections found)) e
+
+pub list_read : (file : List ℕ) {out : List ℕ} (layout : Layout) → layout_of file ≡ Some layout
+    → out ≡ over (words_in file (7 + layout.pairs * 2) (layout.records * 8)) (replicate 4096 0) → Read (list_in file) (layout.records * 8) out
+list_read file layout found e =
+    read file (7 + layout.pairs * 2) (layout.records * 8) (replicate 4096 0) (list_is (sections found)) e

@@ -11,7 +11,8 @@ use lib.Seq.{get_or-take, get_or-drop}
 use borrow.Author.Tests.{leb-true}
 use Rattle.allocator.proofs.Promise.{reduced_words}
 use Rattle.mir.specs.declared.config.Settings.{Settings}
-use Rattle.mir.specs.Folds.{all, all_below}
+use Rattle.std.specs.List.{list_all}
+use Rattle.mir.specs.Folds.{all_below}
 use Rattle.mir.specs.Questions.{word_fits, words_fit, fields_fit}
 use Rattle.mir.specs.Records.{record_at, word_at}
 use Rattle.mir.specs.Shapes.{any, shape_of, shape_for}
@@ -24,15 +25,14 @@ use Rattle.passes.specs.Machine.{Passing}
 use Rattle.theorems.proofs.Reduced.{reduced_passes}
 
 -- the largest values
-each_small : (ws : List ℕ) (p : ℕ) → all (λ w. leb w any) ws ≡ true → get_or ws p 0 ≤ any
-unfolding all
+each_small : (ws : List ℕ) (p : ℕ) → list_all (λ w. leb w any) ws ≡ true → get_or ws p 0 ≤ any
 each_small [] p e = omega arith
 each_small (w ∷ ws) zero e = leb-true w any (and_both (leb w any) _ e).0
 each_small (w ∷ ws) (suc p) e = each_small ws p (and_both (leb w any) _ e).1
 
 most_small : (k p : ℕ) → get_or (shape_of k).most p 0 ≤ any
-unfolding each_from all
-most_small k p = each_small (shape_of k).most p (truth _ (by_kind (λ n s. all (λ w. leb w any) s.most) tt (λ n. tt) k))
+unfolding each_from
+most_small k p = each_small (shape_of k).most p (truth _ (by_kind (λ n s. list_all (λ w. leb w any) s.most) tt (λ n. tt) k))
 
 record_small : (table rec : List ℕ) (p : ℕ) → fields_fit table rec ≡ true → p < 8 → get_or rec p 0 ≤ any
 unfolding fields_fit words_fit

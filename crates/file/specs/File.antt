@@ -1,16 +1,16 @@
 -- Public, document 01, section 8: the file, made of little-endian words of 32 bits, and what reducing it gives.
-use Rattle.std.specs.Prelude.{ℕ, zero, suc, ◌+◌, ◌*◌, ◌/◌, ◌%◌, ◌^◌, Bool, cond, not, ◌&&◌, List, [], ◌∷◌, ◌++◌, ◌≡◌, eqb, leb, length, get_or, take}
-use Rattle.allocator.specs.declared.Answer.{Answer}
+use Rattle.std.specs.Prelude.{ℕ, zero, suc, ◌+◌, ◌*◌, ◌/◌, ◌%◌, ◌^◌, Bool, cond, not, ◌&&◌, List, [], ◌∷◌, ◌++◌, Option, Some, None, Result, ◌≡◌, eqb, leb, length, get_or, take}
+use Rattle.walks.specs.declared.Counts.{Counts}
+use Rattle.mir.specs.declared.refusal.Refusal.{Refusal}
 use Rattle.allocator.specs.Optimize.{report, records_in, left}
 use Rattle.mir.specs.declared.config.Settings.{Settings}
-use Rattle.mir.specs.declared.questions.Verdict.{Verdict}
-use Rattle.mir.specs.declared.questions.Verdict.TheVariants.{Passed, Refused}
+use Rattle.mir.specs.Answers.{Verdict}
+use Rattle.mir.specs.Answers.{Passed, Refused}
 use Rattle.mir.specs.Answers.{unless}
 use Rattle.mir.specs.Questions.{refusal}
 use Rattle.passes.specs.Contract.{counts_of, reduced}
 use Rattle.passes.specs.Machine.{Preserves}
 use Rattle.file.specs.declared.layout.Layout.{Layout}
-use Rattle.file.specs.declared.layout.Layout.TheVariants.{Counts, Bad}
 
 -- word k of bytes, lowest byte first, and n words from word k on
 unfoldable pub word_in : List ℕ → ℕ → ℕ
@@ -63,8 +63,11 @@ well_formed file =
     leb (pair_count file) 512
     && (leb (record_count file) 512 && eqb (length file) ((7 + pair_count file * 2 + record_count file * 8) * 4))
 
-unfoldable pub layout_of : List ℕ → Layout
-layout_of file = cond (well_formed file) (Counts (pair_count file) (record_count file)) Bad
+abbrev pub counted : (pairs records : ℕ) → Layout
+counted pairs records = record { pairs = pairs; records = records }
+
+unfoldable pub layout_of : List ℕ → Option Layout
+layout_of file = cond (well_formed file) (Some (counted (pair_count file) (record_count file))) None
 
 -- 3 at 0 for a file that is not well formed, ahead of question 1; then the questions
 unfoldable pub file_verdict : Bool → List ℕ → Verdict
@@ -81,7 +84,7 @@ file_reduced file = reduced (settings_in file) (list_in file) (table_in file)
 abbrev pub words_verdict : List ℕ → List ℕ → Verdict
 words_verdict file held = file_verdict (leb (record_count file * 8) (length held)) file
 
-pub record FileReduced (file held now : List ℕ) (given : Answer) : Type 0 where
+pub record FileReduced (file held now : List ℕ) (given : Result Counts Refusal) : Type 0 where
   pub answer : report given ≡ unless (words_verdict file held) (file_counts file)
   pub out : now ≡ left (words_verdict file held) (file_reduced file) held
   pub preserved :

@@ -1,23 +1,21 @@
 // A file reduced: the sections are read into working space, questioned and reduced.
-ghost use Rattle.std.specs.Prelude.{◌+◌, ◌*◌, ◌≤◌, true, ◌≡◌, length};
+ghost use Rattle.std.specs.Prelude.{◌+◌, ◌*◌, ◌≤◌, true, Some, ◌≡◌, length};
 ghost use Rattle.mir.specs.Answers.{unless, over};
 ghost use Rattle.mir.specs.Questions.{refusal};
 ghost use Rattle.passes.specs.Contract.{reduced, counts_of};
 ghost use Rattle.passes.specs.Machine.{Passing};
 ghost use Rattle.walks.specs.Lent.{values_in};
 ghost use Rattle.allocator.specs.Optimize.{report, left};
-ghost use Rattle.file.specs.declared.layout.Layout.TheVariants as layout;
 ghost use Rattle.file.specs.File.{FileReduced, settings_in, file_counts, file_reduced, file_verdict, layout_of};
 
 use crate::layout::{Layout, layout_of, read_words, word_at};
 use crate::settings_of;
-use allocator::Answer;
 use mir::config::Settings;
-use mir::questions::Verdict;
+use mir::refusal::{Question, Refusal};
 use questions::check;
 use walks::{Counts, reduce};
 
-// The most words that a file's list and table have, and the working space for them.
+// The most words that a file's list and table have, and the working space for them, which is fixed: reducing takes no heap.
 const LIST: usize = 4096;
 
 const TABLE: usize = 1024;
@@ -30,7 +28,7 @@ const SET: usize = 3072;
 fn reduce_in_space(list: &[u32], table: &[u32], settings: Settings, out: &mut [u32]) -> Counts
     requires list_len_bound { length list.now ≤ 4096 }
     requires table_len_bound { length table.now ≤ 1024 }
-    requires list_in_bounds { length list.now ≤ length out.old }
+    requires out_room { length list.now ≤ length out.old }
     requires passing { Passing settings list.now table.now }
     ensures counts { values_in result ≡ counts_of settings list.now table.now }
     ensures out { out.new ≡ over (reduced settings list.now table.now) out.old }
@@ -56,17 +54,15 @@ fn reduce_list(
     settings: Settings,
     room: bool,
     out: &mut [u32],
-) -> Answer
+) -> Result<Counts, Refusal>
     requires list_len_bound { length list.now ≤ 4096 }
     requires table_len_bound { length table.now ≤ 1024 }
-    requires list_in_bounds { room ≡ true → length list.now ≤ length out.old }
+    requires out_room { room ≡ true → length list.now ≤ length out.old }
     ensures answer { report result ≡ unless (refusal room settings list.now table.now) (counts_of settings list.now table.now) }
     ensures out { out.new ≡ left (refusal room settings list.now table.now) (reduced settings list.now table.now) out.old }
 {
-    match check(list, table, settings, room) {
-        Verdict::Passed => Answer::Reduced(reduce_in_space(list, table, settings, out)),
-        Verdict::Refused(number, index) => Answer::Refused(number, index),
-    }
+    check(list, table, settings, room)?;
+    Ok(reduce_in_space(list, table, settings, out))
 }
 
 fn settings_at(file: &[u8]) -> Settings
@@ -85,21 +81,20 @@ fn settings_at(file: &[u8]) -> Settings
 // The sections of a well-formed file reduced.
 pub fn reduce_sections(
     file: &[u8],
-    pairs: usize,
-    records: usize,
+    layout: Layout,
     room: bool,
     out: &mut [u32],
-) -> Answer
-    requires file_value { layout_of file.now ≡ layout.Counts pairs records }
-    requires records_in_bounds { room ≡ true → records * 8 ≤ length out.old }
+) -> Result<Counts, Refusal>
+    requires file_value { layout_of file.now ≡ Some layout }
+    requires records_in_bounds { room ≡ true → layout.records * 8 ≤ length out.old }
     ensures answer { report result ≡ unless (file_verdict room file.now) (file_counts file.now) }
     ensures out { out.new ≡ left (file_verdict room file.now) (file_reduced file.now) out.old }
 {
     let settings = settings_at(file);
     let mut table = [0u32; TABLE];
     let mut list = [0u32; LIST];
-    let pair_words = pairs * 2;
-    let list_words = records * 8;
+    let pair_words = layout.pairs * 2;
+    let list_words = layout.records * 8;
     read_words(file, 6, pair_words, &mut table);
     read_words(file, 7 + pair_words, list_words, &mut list);
     reduce_list(
@@ -112,14 +107,13 @@ pub fn reduce_sections(
 }
 
 // A file reduced into words.
-pub fn reduce_file(file: &[u8], out: &mut [u32]) -> Answer
+pub fn reduce_file(file: &[u8], out: &mut [u32]) -> Result<Counts, Refusal>
     ensures { FileReduced file.now out.old out.new result }
 {
-    match layout_of(file) {
-        Layout::Counts(pairs, records) => {
-            let room = records * 8 <= out.len();
-            reduce_sections(file, pairs, records, room, out)
-        }
-        Layout::Bad => Answer::Refused(3, 0),
-    }
+    let found = layout_of(file);
+    let Some(layout) = found else {
+        return Err(Question::Lengths.of_list());
+    };
+    let room = layout.records * 8 <= out.len();
+    reduce_sections(file, layout, room, out)
 }

@@ -1,6 +1,7 @@
 -- The ends of statics in the lent slice: a record's sources and destinations change what the slice starts with as `ends_to`
 -- does, and nothing else.
 -- By the laws of a slice that starts with words; a static that a register holds is among the statics so far.
+use Rattle.std.specs.Prelude.{Option, Some, None}
 use Prim.Native.Nat.{ℕ, suc, ◌+◌, ◌≤◌}
 use mathlib.Core.Bool.{Bool, true, false, cond}
 use mathlib.Core.List.{List, [], ◌∷◌, ◌++◌, append-nil, append_assoc}
@@ -9,8 +10,6 @@ use native.Mathlib.Nat.{add-zero, zero-add}
 use native.Mathlib.Numerals.{add-one}
 use native.Mathlib.Omega.{arith}
 use lib.ListN.{length, get_or, set, replicate, length-append, length-set}
-use Rattle.mir.specs.declared.rename.Current.{Current}
-use Rattle.mir.specs.declared.rename.Current.TheVariants.{Static, Unset}
 use Rattle.mir.specs.Records.{record_at, is_gen}
 use Rattle.mir.specs.Renaming.{one, gens, statics_to, regs_to}
 use Rattle.mir.specs.Shapes.{dests, sources}
@@ -23,19 +22,27 @@ use Rattle.mir.proofs.Over.{over_set, over_next}
 
 -- ---- sources
 
-module _ (regs : List Current) (i : ℕ) where
+module _ (regs : List (Option ℕ)) (i : ℕ) where
+  -- a register without a static is read
+  pub consumed_nothing : (w : ℕ) (ends : List ℕ) → get_or regs w None ≡ None → ends ≡ consume regs i w ends
+  consumed_nothing w ends e = go (is_gen w)
+    where
+      go : (b : Bool) → ends ≡ cond b (ended_at (get_or regs w None) i ends) ends
+      go true = rw e
+      go false = refl
+
   pub consumed_next : (ws : List ℕ) (w : ℕ) (ends : List ℕ) → consumed regs i (ws ++ w ∷ []) ends ≡ consume regs i w (consumed regs i ws ends)
   unfolding consumed
   consumed_next [] w ends = refl
   consumed_next (v ∷ ws) w ends = consumed_next ws w (consume regs i v ends)
 
   consume_over : (w : ℕ) (E old : List ℕ) → Known regs (length E) → consume regs i w (over E old) ≡ over (consume regs i w E) old
-  consume_over w E old h = go (is_gen w) (get_or regs w Unset) refl
+  consume_over w E old h = go (is_gen w) (get_or regs w None) refl
     where
-      go : (b : Bool) (c : Current) → get_or regs w Unset ≡ c → cond b (ended_at c i (over E old)) (over E old) ≡ over (cond b (ended_at c i E) E) old
+      go : (b : Bool) (c : Option ℕ) → get_or regs w None ≡ c → cond b (ended_at c i (over E old)) (over E old) ≡ over (cond b (ended_at c i E) E) old
       go false c e = refl
-      go true Unset e = refl
-      go true (Static t) e = over_set E old t i (h w t e)
+      go true None e = refl
+      go true (Some t) e = over_set E old t i (h w t e)
 
   pub consumed_over : (ws E old : List ℕ) → Known regs (length E) → consumed regs i ws (over E old) ≡ over (consumed regs i ws E) old
   unfolding consumed

@@ -7,10 +7,10 @@ use mathlib.Core.Bool.{true}
 use mathlib.Core.List.{List, [], ◌∷◌, map}
 use mathlib.Core.Path.{◌≡◌, refl}
 use lib.ListN.{get_or, set}
-use Rattle.mir.specs.declared.questions.Verdict.{Verdict}
-use Rattle.mir.specs.declared.questions.Verdict.TheVariants.{Passed, Refused}
+use Rattle.mir.specs.Answers.{Verdict}
+use Rattle.mir.specs.Answers.{Passed, Refused}
 use Rattle.mir.specs.Branches.{is_label, label_at, is_branch, label_of, past_to}
-use Rattle.mir.specs.Folds.{all_below, any_below, all, first_refusal, last_below}
+use Rattle.mir.specs.Folds.{all_below, any_below, first_refusal, last_below}
 use Rattle.mir.specs.Questions.{refusal, refusal_beside, sizes_refusal, record_refusal, shape_refusal, branch_refusal, record_no, shape_no, few_registers, few_args, well_sized}
 use Rattle.mir.specs.Questions.{known_kind, fields_fit, words_fit, pairs_fit, gens_fit, partner_fits, sources_named, sources_since}
 use Rattle.mir.specs.Records.{record_at}
@@ -139,7 +139,7 @@ pub record ToLabels : Type 0 where
 pub branch_cases : EachSource × PastBranch × ToLabels
 unfolding of past asked refusal refusal_beside sizes_refusal record_refusal shape_refusal branch_refusal record_no shape_no few_registers few_args
     well_sized known_kind fields_fit words_fit pairs_fit gens_fit partner_fits sources_named sources_since is_label is_branch label_of past_to
-    all_below any_below all first_refusal last_below record_at gens produced renamed statics_to regs_to shape_of dests sources registers
+    all_below any_below first_refusal last_below record_at gens produced renamed statics_to regs_to shape_of dests sources registers
 branch_cases = (
   record {
     uni = refl;

@@ -5,15 +5,17 @@ use mathlib.Core.Bool.{Bool, true, false, not, ◌&&◌, ◌||◌, and-false, an
 use mathlib.Core.List.{List, [], ◌∷◌, ◌++◌}
 use mathlib.Core.Logic.{◌⊎◌, inl, inr, ⊎_elim}
 use mathlib.Core.Path.{◌≡◌, refl, sym, ◌∙◌}
+use native.Mathlib.Nat.{zero-add}
 use native.Mathlib.Numerals.{add-one}
 use native.Mathlib.Omega.{arith}
 use native.Mathlib.Decide.{dec_lt}
 use lib.ListN.{length, get_or, take, drop, length-drop}
-use lib.Seq.{take-suc, get_or-drop}
+use lib.Seq.{take-suc, take_all, get_or-drop}
 use borrow.Author.Tests.{not-true, not-false}
-use Rattle.mir.specs.declared.questions.Verdict.{Verdict}
-use Rattle.mir.specs.declared.questions.Verdict.TheVariants.{Passed, Refused}
-use Rattle.mir.specs.Folds.{all_below, any_below, all, refused_at, or_else, first_refusal}
+use Rattle.mir.specs.Answers.{Verdict}
+use Rattle.mir.specs.Answers.{Passed, Refused}
+use Rattle.std.specs.List.{list_all}
+use Rattle.mir.specs.Folds.{all_below, any_below, refused_at, or_else, first_refusal}
 
 -- n < suc m: below m, or m itself
 pub below_suc : {n m : ℕ} → n < suc m → (n < m) ⊎ (n ≡ m)
@@ -65,15 +67,14 @@ holds_ends {p} {n} {j} h l =
     sym (rw e at h.passed)
 
 module _ (p : ℕ → Bool) where
-  pub all_append : (xs ys : List ℕ) → all p (xs ++ ys) ≡ (all p xs && all p ys)
-  unfolding all
+  pub all_append : (xs ys : List ℕ) → list_all p (xs ++ ys) ≡ (list_all p xs && list_all p ys)
   all_append [] ys = refl
-  all_append (x ∷ xs) ys = rw (all_append xs ys) (sym (and_assoc (p x) (all p xs) (all p ys)))
+  all_append (x ∷ xs) ys = rw (all_append xs ys) (sym (and_assoc (p x) (list_all p xs) (list_all p ys)))
 
   -- p holds of each of the `count` words from `from` on
   pub all_words : (ws : List ℕ) (from count : ℕ) → from + count ≤ length ws
-      → all p (take count (drop from ws)) ≡ all_below count (λ j. p (get_or ws (from + j) 0))
-  unfolding all all_below
+      → list_all p (take count (drop from ws)) ≡ all_below count (λ j. p (get_or ws (from + j) 0))
+  unfolding all_below
   all_words ws from zero h = refl
   all_words ws from (suc n) h =
       let l : n < length (drop from ws) = simp length-drop (omega arith) in
@@ -84,6 +85,9 @@ module _ (p : ℕ → Bool) where
         and-true (p (get_or (drop from ws) n 0)),
         get_or-drop from ws n 0,
       )
+
+  pub all_each_word : (ws : List ℕ) → list_all p ws ≡ all_below (length ws) (λ j. p (get_or ws j 0))
+  all_each_word ws = simp zero-add at (rw (take_all (length ws) ws (omega arith)) at (all_words ws 0 (length ws) (omega arith)))
 
 module _ (p : ℕ → Bool) where
   pub any_some : (n j : ℕ) → j < n → p j ≡ true → any_below n p ≡ true

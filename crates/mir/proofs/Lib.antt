@@ -1,7 +1,7 @@
 -- Laws that several functions' proofs, and the crates above, cite.
 pub mod BranchCases
 pub mod Clash
-pub mod Currents
+pub mod Asked
 pub mod Folds
 pub mod Limits
 pub mod Masks

@@ -8,10 +8,10 @@ use mathlib.Core.List.{List, [], ◌∷◌, ◌++◌, map}
 use mathlib.Core.Path.{◌≡◌, refl}
 use lib.ListN.{length, get_or, set, replicate}
 use Rattle.mir.specs.declared.config.Settings.{Settings}
-use Rattle.mir.specs.declared.questions.Verdict.{Verdict}
-use Rattle.mir.specs.declared.questions.Verdict.TheVariants.{Passed, Refused}
+use Rattle.mir.specs.Answers.{Verdict}
+use Rattle.mir.specs.Answers.{Passed, Refused}
 use Rattle.mir.specs.Branches.{is_label, is_branch, label_of, past_to}
-use Rattle.mir.specs.Folds.{all_below, any_below, all, or_else, first_refusal}
+use Rattle.mir.specs.Folds.{all_below, any_below, or_else, first_refusal}
 use Rattle.mir.specs.Questions.{refusal, refusal_beside, sizes_refusal, record_refusal, shape_refusal, record_no, shape_no, few_registers, few_args, well_sized}
 use Rattle.mir.specs.Questions.{known_kind, fields_fit, words_fit, pairs_fit, gens_fit, partner_fits, sources_named, sources_since, branch_refusal}
 use Rattle.mir.specs.Records.{record_at}
@@ -206,7 +206,7 @@ module _ (list table : List ℕ) where
 pub limit_cases : WordLimits × RegisterLimits × ListLimits
 unfolding of one_more as_gens refusal refusal_beside sizes_refusal record_refusal shape_refusal record_no shape_no few_registers few_args well_sized
     known_kind fields_fit words_fit pairs_fit gens_fit partner_fits sources_named sources_since branch_refusal is_label is_branch label_of past_to
-    all_below any_below all first_refusal record_at gens produced renamed statics_to regs_to shape_of dests sources registers
+    all_below any_below first_refusal record_at gens produced renamed statics_to regs_to shape_of dests sources registers
 limit_cases = (
   record {
     passing = refl;

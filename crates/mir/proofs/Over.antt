@@ -2,12 +2,12 @@
 -- words over fewer.
 -- By the laws of `set`, `take` and `drop` at a seam.
 use Prim.Native.Nat.{ℕ, suc, ◌+◌, ◌-◌, ◌<◌, ◌≤◌}
-use mathlib.Core.List.{List, [], ◌∷◌, ◌++◌, append-nil, append_assoc}
+use mathlib.Core.List.{List, [], ◌∷◌, ◌++◌, append_assoc}
 use mathlib.Core.Path.{◌≡◌, refl, sym, ap, subst, ◌∙◌}
 use native.Mathlib.Numerals.{add-one}
 use native.Mathlib.Omega.{arith}
 use lib.ListN.{length, get_or, set, take, drop, length-append, length-drop, get_or-append, drop_of_length-le}
-use lib.Seq.{take_all, drop-cons, append_snoc, set_at, set-append_left, drop-append-add}
+use lib.Seq.{drop-cons, append_snoc, set_at, set-append_left, drop-append-add}
 use lib.Seq.{take-append_seam, drop-drop}
 use Rattle.mir.specs.Answers.{over}
 
@@ -53,14 +53,3 @@ pub over_after : (ws vs old : List ℕ) → ws ++ over vs (drop (length ws) old)
 over_after ws vs old =
     sym (append_assoc ws vs (drop (length vs) (drop (length ws) old)))
     ∙ ap (λ r. (ws ++ vs) ++ r) (drop-drop (length vs) (length ws) old ∙ ap (λ n. drop n old) (sym (length-append ws vs)))
-
--- words over the part from a place on, which is put back
-pub part_over : (ws out last : List ℕ) (at : ℕ) → last ≡ over ws (take (length out - at) (drop at out))
-    → take at out ++ (last ++ drop (length out - at) (drop at out)) ≡ take at out ++ over ws (drop at out)
-part_over ws out last at e =
-    ap (λ r. take at out ++ (r ++ drop (length out - at) (drop at out))) (e ∙ ap (over ws) (take_all (length out - at) (drop at out) h))
-    ∙ (ap (λ r. take at out ++ (over ws (drop at out) ++ r)) (drop_of_length-le (drop at out) h)
-    ∙ ap (λ r. take at out ++ r) (append-nil (over ws (drop at out))))
-  where
-    h : length (drop at out) ≤ length out - at
-    h = rw (length-drop at out) (omega arith)

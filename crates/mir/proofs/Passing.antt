@@ -1,5 +1,6 @@
 -- What a record that passes its questions is known by, and how the questions that two operations share go together.
 -- By the answers' cases; the register questions carry over from fewer registers to more.
+use Rattle.std.specs.Prelude.{Option}
 use Prim.Native.Nat.{ℕ, zero, suc, ◌%◌, ◌≤◌, ◌<◌}
 use mathlib.Core.Bool.{Bool, true, false, cond, ◌&&◌}
 use mathlib.Core.List.{List, [], ◌∷◌, ◌++◌, map}
@@ -9,10 +10,10 @@ use lib.ListN.{length, get_or, set}
 use lib.Dec.{ltb, leb, eqb}
 use borrow.Author.Tests.{lt-ltb, ltb-true, leb-true, eqb-true}
 use Rattle.mir.specs.declared.config.Settings.{Settings}
-use Rattle.mir.specs.declared.questions.Verdict.TheVariants.{Passed, Refused}
-use Rattle.mir.specs.declared.rename.Current.{Current}
+use Rattle.mir.specs.Answers.{Passed, Refused}
 use Rattle.mir.specs.Branches.{past_to}
-use Rattle.mir.specs.Folds.{all, all_below, first_no, refused_at, or_else}
+use Rattle.std.specs.List.{list_all}
+use Rattle.mir.specs.Folds.{all_below, first_no, refused_at, or_else}
 use Rattle.mir.specs.Questions.{few_registers, few_args, well_sized, known_kind, word_fits, words_fit, fields_fit, gen_fits, gens_fit, partner_fits, sources_named, sources_since}
 use Rattle.mir.specs.Questions.{shape_no, record_no, record_by, record_refusal, lands, branch_by, branch_refusal, sizes_refusal, refusal}
 use Rattle.mir.specs.Records.{is_gen, max_regs, records, record_at}
@@ -58,7 +59,7 @@ module _ (table : List ℕ) (count_regs : ℕ) (rec : List ℕ) where
   abbrev shape_asked : List (ℕ × Bool)
   shape_asked = (5, known_kind rec) ∷ (6, fields_fit table rec) ∷ (7, gens_fit count_regs rec) ∷ []
 
-  abbrev last_asked : List Current → ℕ → List (ℕ × Bool)
+  abbrev last_asked : List (Option ℕ) → ℕ → List (ℕ × Bool)
   last_asked regs past = (8, partner_fits rec) ∷ (9, sources_named regs rec) ∷ (15, sources_since past regs rec) ∷ []
 
   -- a record that questions 5 to 7 pass
@@ -74,13 +75,13 @@ module _ (table : List ℕ) (count_regs : ℕ) (rec : List ℕ) where
       record { kind = y.0; fields = y.1.0; gens = y.1.1.0 }
 
   -- a record that questions 5 to 9 and 15 pass
-  pub record Passes (regs : List Current) (past : ℕ) : Type 0 where
+  pub record Passes (regs : List (Option ℕ)) (past : ℕ) : Type 0 where
     pub shape : ShapePasses
     pub partner : partner_fits rec ≡ true
     pub sources : sources_named regs rec ≡ true
     pub since : sources_since past regs rec ≡ true
 
-  pub record_passes : (regs : List Current) (past : ℕ) → record_no table count_regs regs past rec ≡ 0 → Passes regs past
+  pub record_passes : (regs : List (Option ℕ)) (past : ℕ) → record_no table count_regs regs past rec ≡ 0 → Passes regs past
   unfolding record_no
   record_passes regs past e =
       let y = each_yes (shape_asked ++ last_asked regs past) tt e in
@@ -92,20 +93,19 @@ module _ (table : List ℕ) (count_regs : ℕ) (rec : List ℕ) where
       }
 
   -- a no to questions 5 to 7 is the record's, and after three times yes the last ones decide
-  pub shape_stops : (regs : List Current) (past n : ℕ) → n ≡ shape_no table count_regs rec → (n ≡ 0 → ⊥) → n ≡ record_no table count_regs regs past rec
+  pub shape_stops : (regs : List (Option ℕ)) (past n : ℕ) → n ≡ shape_no table count_regs rec → (n ≡ 0 → ⊥) → n ≡ record_no table count_regs regs past rec
   unfolding shape_no record_no
   shape_stops regs past n e h = e ∙ first_stops shape_asked (last_asked regs past) (λ z. h (e ∙ z))
 
-  pub then_last : (regs : List Current) (past : ℕ) → ShapePasses → record_no table count_regs regs past rec ≡ first_no (last_asked regs past)
+  pub then_last : (regs : List (Option ℕ)) (past : ℕ) → ShapePasses → record_no table count_regs regs past rec ≡ first_no (last_asked regs past)
   unfolding record_no
   then_last regs past p = rw (p.kind, p.fields, p.gens)
 
 -- what holds of each word, weakened
-all_weaker : (p q : ℕ → Bool) → ((w : ℕ) → p w ≡ true → q w ≡ true) → (ws : List ℕ) → all p ws ≡ true → all q ws ≡ true
-unfolding all
+all_weaker : (p q : ℕ → Bool) → ((w : ℕ) → p w ≡ true → q w ≡ true) → (ws : List ℕ) → list_all p ws ≡ true → list_all q ws ≡ true
 all_weaker p q f [] h = refl
 all_weaker p q f (w ∷ ws) h =
-    let b = and_both (p w) (all p ws) h in
+    let b = and_both (p w) (list_all p ws) h in
     rw (f w b.0, all_weaker p q f ws b.1)
 
 gen_fits_more : (n m w : ℕ) → n ≤ m → gen_fits n w ≡ true → gen_fits m w ≡ true

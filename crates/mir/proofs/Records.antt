@@ -7,6 +7,8 @@ use native.Mathlib.Omega.{arith}
 use native.Mathlib.Nat.{add-zero, add-suc, suc-add}
 use lib.ListN.{length, get_or, take, drop}
 use lib.Seq.{drop-cons, get_or-take, get_or-drop}
+use Rattle.std.proofs.lemmas.List.{drop-drop}
+use Rattle.std.specs.Simd.{first_chunks}
 use Rattle.mir.specs.Records.{record_at, word_at}
 
 -- records in a row, as a list of words
@@ -36,3 +38,15 @@ word_is list i p l = rw (get_or-take, get_or-drop)
 
 pub kind_is : (list : List ℕ) (i : ℕ) → word_at (record_at list i) 0 ≡ get_or list (i * 8) 0
 kind_is list i = word_is list i 0 (omega arith) ∙ simp add-zero
+
+-- ---- the chunks of eight words
+
+-- chunk i of the first k of n words each
+pub chunk_is : (n k i : ℕ) (l : List ℕ) → i < k → get_or (first_chunks n k l) i [] ≡ take n (drop (i * n) l)
+chunk_is n zero i l h = search arith
+chunk_is n (suc k) zero l h =
+    let e : 0 * n ≡ 0 = omega arith in
+    rw e
+chunk_is n (suc k) (suc i) l h =
+    let e : suc i * n ≡ n + i * n = omega arith in
+    rw (e, chunk_is n k i (drop n l) (omega arith), drop-drop)

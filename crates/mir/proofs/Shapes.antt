@@ -95,6 +95,9 @@ pub two_dests : (k : ℕ) → (shape_of k).dsts ≤ 2
 unfolding each_from
 two_dests = rule (λ s. s.dsts) (λ s. 2) tt tt
 
+pub few_dests : (k : ℕ) {s : Shape} → s ≡ shape_of k → s.dsts ≤ 2
+few_dests k same = rw same (two_dests k)
+
 -- where there are registers, they stand after the kind
 pub regs_after_kind : (k : ℕ) → (shape_of k).dsts + (shape_of k).srcs ≤ (shape_of k).regs * 8
 unfolding each_from

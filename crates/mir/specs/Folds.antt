@@ -1,7 +1,7 @@
 -- Public: the words that the definitions are put in: each of, the first no, the last such.
 use Rattle.std.specs.Prelude.{ℕ, zero, suc, Bool, true, false, cond, ◌&&◌, ◌||◌, List, [], ◌∷◌}
-use Rattle.mir.specs.declared.questions.Verdict.{Verdict}
-use Rattle.mir.specs.declared.questions.Verdict.TheVariants.{Passed, Refused}
+use Rattle.mir.specs.Answers.{Verdict}
+use Rattle.mir.specs.Answers.{Passed, Refused}
 
 -- p holds of each number below n
 unfoldable pub all_below : ℕ → (ℕ → Bool) → Bool
@@ -12,11 +12,6 @@ all_below (suc n) p = all_below n p && p n
 unfoldable pub any_below : ℕ → (ℕ → Bool) → Bool
 any_below zero p = false
 any_below (suc n) p = any_below n p || p n
-
--- p holds of each word
-unfoldable pub all : (ℕ → Bool) → List ℕ → Bool
-all p [] = true
-all p (w ∷ ws) = p w && all p ws
 
 -- the number of the first question that is answered with no, or 0
 abbrev pub first_no : List (ℕ × Bool) → ℕ

@@ -1,12 +1,11 @@
 -- Public, document 01, section 7, and document 02, request 10: the questions put to a list before it is reduced, and the
 -- refusal that they come to.
-use Rattle.std.specs.Prelude.{ℕ, ◌+◌, ◌*◌, ◌/◌, ◌%◌, Bool, true, false, cond, ◌&&◌, List, [], ◌∷◌, length, get_or, leb, ltb, eqb}
+use Rattle.std.specs.Prelude.{ℕ, ◌+◌, ◌*◌, ◌/◌, ◌%◌, Bool, true, false, cond, ◌&&◌, List, [], ◌∷◌, length, get_or, leb, ltb, eqb, Option, Some, None}
 use Rattle.mir.specs.declared.config.Settings.{Settings}
-use Rattle.mir.specs.declared.rename.Current.{Current}
-use Rattle.mir.specs.declared.rename.Current.TheVariants.{Static, Unset}
-use Rattle.mir.specs.declared.questions.Verdict.{Verdict}
+use Rattle.mir.specs.Answers.{Verdict}
 use Rattle.mir.specs.Branches.{label_at, is_branch, label_of, past_to}
-use Rattle.mir.specs.Folds.{all_below, any_below, all, first_no, refused_at, or_else, first_refusal}
+use Rattle.std.specs.List.{list_all}
+use Rattle.mir.specs.Folds.{all_below, any_below, first_no, refused_at, or_else, first_refusal}
 use Rattle.mir.specs.Records.{records, record_at, word_at, is_gen, max_regs}
 use Rattle.mir.specs.Shapes.{any, spc, load_args, shape_for, registers, sources}
 use Rattle.mir.specs.Renaming.{regs_to}
@@ -51,41 +50,41 @@ abbrev pub gen_fits : ℕ → ℕ → Bool
 gen_fits count_regs w = cond (is_gen w) (ltb w count_regs) true
 
 unfoldable pub gens_fit : ℕ → List ℕ → Bool
-gens_fit count_regs rec = all (gen_fits count_regs) (registers rec)
+gens_fit count_regs rec = list_all (gen_fits count_regs) (registers rec)
 
 -- 8. In kinds 7 and 8, is the index below 4,294,967,295?
 unfoldable pub partner_fits : List ℕ → Bool
 partner_fits rec = cond (leb 7 (word_at rec 0) && leb (word_at rec 0) 8) (ltb (word_at rec 4) any) true
 
 -- 9. Has each Gen source a static?
-abbrev pub is_static : Current → Bool
-is_static (Static s) = true
-is_static Unset = false
+abbrev pub is_static : Option ℕ → Bool
+is_static (Some s) = true
+is_static None = false
 
-abbrev pub named : List Current → ℕ → Bool
-named regs w = cond (is_gen w) (is_static (get_or regs w Unset)) true
+abbrev pub named : List (Option ℕ) → ℕ → Bool
+named regs w = cond (is_gen w) (is_static (get_or regs w None)) true
 
-unfoldable pub sources_named : List Current → List ℕ → Bool
-sources_named regs rec = all (named regs) (sources rec)
+unfoldable pub sources_named : List (Option ℕ) → List ℕ → Bool
+sources_named regs rec = list_all (named regs) (sources rec)
 
 -- 15. Was each Gen source written since the last BranchIf? `past` is how many statics were written before it; a register
 -- without one is question 9's
-abbrev pub is_since : ℕ → Current → Bool
-is_since past (Static s) = leb past s
-is_since past Unset = true
+abbrev pub is_since : ℕ → Option ℕ → Bool
+is_since past (Some s) = leb past s
+is_since past None = true
 
-abbrev pub since : ℕ → List Current → ℕ → Bool
-since past regs w = cond (is_gen w) (is_since past (get_or regs w Unset)) true
+abbrev pub since : ℕ → List (Option ℕ) → ℕ → Bool
+since past regs w = cond (is_gen w) (is_since past (get_or regs w None)) true
 
-unfoldable pub sources_since : ℕ → List Current → List ℕ → Bool
-sources_since past regs rec = all (since past regs) (sources rec)
+unfoldable pub sources_since : ℕ → List (Option ℕ) → List ℕ → Bool
+sources_since past regs rec = list_all (since past regs) (sources rec)
 
 -- what record i is refused by, or 0: 5 before 6 before 7, and for a list that is to be reduced before 8 before 9 before 15
 unfoldable pub shape_no : List ℕ → ℕ → List ℕ → ℕ
 shape_no table count_regs rec =
     first_no ((5, known_kind rec) ∷ (6, fields_fit table rec) ∷ (7, gens_fit count_regs rec) ∷ [])
 
-unfoldable pub record_no : List ℕ → ℕ → List Current → ℕ → List ℕ → ℕ
+unfoldable pub record_no : List ℕ → ℕ → List (Option ℕ) → ℕ → List ℕ → ℕ
 record_no table count_regs regs past rec =
     first_no
     ((5, known_kind rec)

@@ -4,5 +4,6 @@
 pub mod config;
 pub mod questions;
 pub mod record;
+pub mod refusal;
 pub mod rename;
 pub mod shape;

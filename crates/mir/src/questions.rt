@@ -1,50 +1,34 @@
 // The questions that are asked of the lengths and of each record (document 01, section 7); crate questions asks them all.
 
-ghost use Rattle.std.specs.Prelude.{◌+◌, ◌≤◌, ◌<◌, cond, true, [], ◌∷◌, ◌≡◌, eqb, length, take, drop};
-ghost use Rattle.mir.specs.Folds.{all, first_no};
-ghost use Rattle.mir.specs.Inner.{currents_in};
+ghost use Rattle.std.specs.Prelude.{◌+◌, ◌≤◌, ◌<◌, cond, true, [], ◌∷◌, ◌≡◌, eqb, length};
+ghost use Rattle.mir.specs.Answers.{no_in, verdict_in};
+ghost use Rattle.std.specs.List.{list_all};
+ghost use Rattle.mir.specs.Folds.{first_no};
 ghost use Rattle.mir.specs.Questions.{well_sized, words_fit, pairs_fit, fields_fit, gen_fits, gens_fit, partner_fits, named, sources_named, since, sources_since, shape_no, record_no, record_refusal, sizes_refusal};
 ghost use Rattle.mir.specs.Records.{word_at, max_regs};
 ghost use Rattle.mir.specs.Shapes.{branch_if};
 
 use crate::config::MAX_REGS;
-use crate::record::record_at;
-use crate::rename::{Current, UNSET, count_statics, current_of, rename};
-use crate::shape::{BRANCH_IF, LOAD_ARGS, shape_of};
-
-// Whether a list passes; a refusal has the question's number and the index of the first bad record.
-#[derive(Clone, Copy)]
-pub enum Verdict {
-    Passed,
-    Refused(u32, u32),
-}
+use crate::record::records_of;
+use crate::refusal::{Question, Refusal};
+use crate::rename::{count_statics, rename, static_of};
+use crate::shape::{BRANCH_IF, LOAD_ARGS, registers_of, shape_of, sources_of};
 
 // Question 3, of the lengths.
 pub fn well_sized(list: usize, table: usize) -> bool
     ensures { result ≡ well_sized list table }
 {
-    if list % 8 != 0 {
-        return false;
-    }
-    if 524_288 < list {
-        return false;
-    }
-    if table % 2 != 0 {
-        return false;
-    }
-    table <= 65_536
+    list % 8 == 0 && list <= 524_288 && table % 2 == 0 && table <= 65_536
 }
 
 // Question 6: no word is above the largest that its field may be.
 fn words_fit(rec: [u32; 8], most: [u32; 8]) -> bool
     ensures { result ≡ words_fit rec most }
 {
-    let mut p = 0;
-    while p < 8 {
+    for p in 0..8 {
         if most[p] < rec[p] {
             return false;
         }
-        p += 1;
     }
     true
 }
@@ -58,12 +42,10 @@ fn pairs_fit(table: &[u32], first: u32, count: u32) -> bool
     if table.len() / 2 < from + n {
         return false;
     }
-    let mut j = 0;
-    while j < n {
+    for j in 0..n {
         if 2 < table[(from + j) * 2] {
             return false;
         }
-        j += 1;
     }
     true
 }
@@ -91,28 +73,18 @@ fn gen_fits(count_regs: u32, w: u32) -> bool
     if w < 256 { w < count_regs } else { true }
 }
 
-// Question 7, of the `count` register words from `from` on.
-fn all_gens_fit(rec: [u32; 8], from: usize, count: usize, count_regs: u32) -> bool
-    requires { from + count ≤ 8 }
-    ensures { result ≡ all (gen_fits count_regs) (take count (drop from rec)) }
+// Question 7, of register words.
+fn all_gens_fit(words: &[u32], count_regs: u32) -> bool
+    ensures { result ≡ list_all (gen_fits count_regs) words.now }
 {
-    let mut j = 0;
-    while j < count {
-        if !gen_fits(count_regs, rec[from + j]) {
-            return false;
-        }
-        j += 1;
-    }
-    true
+    words.iter().all(|&w| gen_fits(count_regs, w))
 }
 
 // Question 7.
 fn gens_fit(rec: [u32; 8], count_regs: u32) -> bool
     ensures { result ≡ gens_fit count_regs rec }
 {
-    let s = shape_of(rec[0]);
-    let from = s.regs;
-    all_gens_fit(rec, from, s.dsts + s.srcs, count_regs)
+    all_gens_fit(registers_of(&rec), count_regs)
 }
 
 // Question 8.
@@ -121,121 +93,110 @@ fn partner_fits(rec: [u32; 8]) -> bool
 {
     let kind = rec[0];
     match kind {
-        7..=8 => rec[4] < 4_294_967_295,
+        7..=8 => rec[4] < u32::MAX,
         _ => true,
     }
 }
 
-// What a record is refused by, or 0: questions 5 to 7.
-pub fn check_shape(rec: [u32; 8], table: &[u32], count_regs: u32) -> u32
-    ensures { result ≡ shape_no table.now count_regs rec }
+// Questions 5 to 7.
+pub fn check_shape(rec: [u32; 8], table: &[u32], count_regs: u32) -> Result<(), Question>
+    ensures { no_in result ≡ shape_no table.now count_regs rec }
 {
     if 20 < rec[0] {
-        return 5;
+        return Err(Question::Kind);
     }
     if !fields_fit(rec, table) {
-        return 6;
+        return Err(Question::Fields);
     }
     if !gens_fit(rec, count_regs) {
-        return 7;
+        return Err(Question::Registers);
     }
-    0
+    Ok(())
 }
 
-// Questions 9 and 15, of one source word: 9 where it is a Gen without a static, 15 where its static is one of the `past` that were
-// written before a BranchIf, else 0.
-fn check_source(regs: &[u32; MAX_REGS], past: u32, w: u32) -> u32
-    requires regs_len { length regs.now ≡ max_regs }
-    requires w_lt_max_regs { w < 256 → w < max_regs }
-    ensures { result ≡ first_no ((9, named (currents_in regs.now) w) ∷ (15, since past (currents_in regs.now) w) ∷ []) }
+// Question 9, of one source word.
+fn check_named(regs: &[Option<u32>; MAX_REGS], w: u32) -> Result<(), Question>
+    ensures { no_in result ≡ first_no ((9, named regs.now w) ∷ []) }
 {
     if 256 <= w {
-        return 0;
+        return Ok(());
     }
-    let r = w as usize;
-    let current = current_of(regs[r]);
-    let Current::Static(s) = current else {
-        return 9;
+    let Some(_) = static_of(regs, w) else {
+        return Err(Question::Named);
     };
-    if s < past { 15 } else { 0 }
+    Ok(())
 }
 
-// Questions 9 and 15, of the `count` source words from `from` on: a 9 comes before every 15.
-fn check_source_words(
-    regs: &[u32; MAX_REGS],
-    past: u32,
-    rec: [u32; 8],
-    from: usize,
-    count: usize,
-) -> u32
-    requires regs_len { length regs.now ≡ max_regs }
-    requires count_bound { from + count ≤ 8 }
-    requires rec_value { all (gen_fits max_regs) (take count (drop from rec)) ≡ true }
-    ensures { result ≡ first_no ((9, all (named (currents_in regs.now)) (take count (drop from rec))) ∷ (15, all (since past (currents_in regs.now)) (take count (drop from rec))) ∷ []) }
+// Question 15, of one source word: its static is none of the `past` that were written before a BranchIf.
+fn is_since(regs: &[Option<u32>; MAX_REGS], past: u32, w: u32) -> bool
+    ensures { result ≡ since past regs.now w }
 {
-    let mut late = 0;
-    let mut j = 0;
-    while j < count {
-        let by = check_source(regs, past, rec[from + j]);
-        if by == 9 {
-            return 9;
-        }
-        if by != 0 {
-            late = by;
-        }
-        j += 1;
+    let Some(s) = static_of(regs, w) else {
+        return true;
+    };
+    past <= s
+}
+
+// Question 9, of a record's source words.
+fn check_all_named(regs: &[Option<u32>; MAX_REGS], words: &[u32]) -> Result<(), Question>
+    ensures { no_in result ≡ first_no ((9, list_all (named regs.now) words.now) ∷ []) }
+{
+    for &w in words {
+        check_named(regs, w)?;
     }
-    late
+    Ok(())
 }
 
-// Questions 9 and 15.
-fn check_sources(regs: &[u32; MAX_REGS], past: u32, rec: [u32; 8]) -> u32
-    requires regs_len { length regs.now ≡ max_regs }
-    requires rec_value { gens_fit max_regs rec ≡ true }
-    ensures { result ≡ first_no ((9, sources_named (currents_in regs.now) rec) ∷ (15, sources_since past (currents_in regs.now) rec) ∷ []) }
+// Question 15, of a record's source words.
+fn all_since(regs: &[Option<u32>; MAX_REGS], past: u32, words: &[u32]) -> bool
+    ensures { result ≡ list_all (since past regs.now) words.now }
 {
-    let s = shape_of(rec[0]);
-    let from = s.regs + s.dsts;
-    let count = s.srcs;
-    check_source_words(regs, past, rec, from, count)
+    words.iter().all(|&w| is_since(regs, past, w))
 }
 
-// What a record is refused by, or 0: questions 5 to 9 and 15.
+// Questions 9 and 15: every source is asked 9 before any is asked 15.
+fn check_sources(regs: &[Option<u32>; MAX_REGS], past: u32, rec: [u32; 8]) -> Result<(), Question>
+    ensures { no_in result ≡ first_no ((9, sources_named regs.now rec) ∷ (15, sources_since past regs.now rec) ∷ []) }
+{
+    let words = sources_of(&rec);
+    check_all_named(regs, words)?;
+    if !all_since(regs, past, words) {
+        return Err(Question::Since);
+    }
+    Ok(())
+}
+
+// Questions 5 to 9 and 15.
 fn check_record(
     rec: [u32; 8],
     table: &[u32],
     count_regs: u32,
-    regs: &[u32; MAX_REGS],
+    regs: &[Option<u32>; MAX_REGS],
     past: u32,
-) -> u32
-    requires regs_len { length regs.now ≡ max_regs }
-    requires count_regs_le_max_regs { count_regs ≤ max_regs }
-    ensures { result ≡ record_no table.now count_regs (currents_in regs.now) past rec }
+) -> Result<(), Question>
+    ensures { no_in result ≡ record_no table.now count_regs regs.now past rec }
 {
-    let by = check_shape(rec, table, count_regs);
-    if by != 0 {
-        return by;
-    }
+    check_shape(rec, table, count_regs)?;
     if !partner_fits(rec) {
-        return 8;
+        return Err(Question::Partner);
     }
     check_sources(regs, past, rec)
 }
 
 // Questions 1, 3 and 4, which come before any record of a list that is surveyed; `room` is the answer to question 4.
-pub fn check_sizes(list: usize, table: usize, count_regs: u32, room: bool) -> Verdict
-    ensures { result ≡ sizes_refusal room count_regs list table }
+pub fn check_sizes(list: usize, table: usize, count_regs: u32, room: bool) -> Result<(), Refusal>
+    ensures { verdict_in result ≡ sizes_refusal room count_regs list table }
 {
     if MAX_REGS < count_regs as usize {
-        return Verdict::Refused(1, 0);
+        return Err(Question::FewRegisters.of_list());
     }
     if !well_sized(list, table) {
-        return Verdict::Refused(3, 0);
+        return Err(Question::Lengths.of_list());
     }
     if !room {
-        return Verdict::Refused(4, 0);
+        return Err(Question::Room.of_list());
     }
-    Verdict::Passed
+    Ok(())
 }
 
 // How many statics were written before the last BranchIf, once a record has been passed; `statics` were there before it.
@@ -246,26 +207,22 @@ fn past_after(rec: [u32; 8], statics: u32, past: u32) -> u32
 }
 
 // Questions 5 to 9 and 15, record by record.
-pub fn check_records(list: &[u32], table: &[u32], count_regs: u32) -> Verdict
+pub fn check_records(list: &[u32], table: &[u32], count_regs: u32) -> Result<(), Refusal>
     requires count_regs_le_max_regs { count_regs ≤ max_regs }
     requires table_value { well_sized (length list.now) (length table.now) ≡ true }
-    ensures { result ≡ record_refusal table.now count_regs list.now }
+    ensures { verdict_in result ≡ record_refusal table.now count_regs list.now }
 {
-    let n = list.len() / 8;
-    let mut regs = [UNSET; MAX_REGS];
+    let mut regs = [None; MAX_REGS];
     let mut statics = 0;
     let mut past = 0;
-    let mut i = 0;
-    while i < n {
-        let rec = record_at(list, i);
-        let by = check_record(rec, table, count_regs, &regs, past);
-        if by != 0 {
-            return Verdict::Refused(by, i as u32);
+    for (i, &rec) in records_of(list).iter().enumerate() {
+        let answer = check_record(rec, table, count_regs, &regs, past);
+        if let Err(question) = answer {
+            return Err(question.of_record(i as u32));
         }
         rename(&mut regs, rec, statics);
         past = past_after(rec, statics, past);
         statics += count_statics(rec);
-        i += 1;
     }
-    Verdict::Passed
+    Ok(())
 }

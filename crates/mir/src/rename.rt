@@ -1,34 +1,16 @@
 // Which static each register holds (document 01, section 2).
-ghost use Rattle.std.specs.Prelude.{◌+◌, ◌<◌, true, ◌≡◌};
-ghost use Rattle.mir.specs.Inner.{current_in, currents_in};
-ghost use Rattle.mir.specs.Questions.{gens_fit};
-ghost use Rattle.mir.specs.Records.{max_regs};
+ghost use Rattle.std.specs.Prelude.{◌+◌, ◌<◌, None, ◌≡◌, get_or};
 ghost use Rattle.mir.specs.Renaming.{gens, one, produced, renamed};
 ghost use Rattle.mir.specs.Shapes.{any, dests};
 
 use crate::config::MAX_REGS;
 use crate::shape::{CALL, Dests, LABEL, dests_of};
 
-// A register's current static: the Rust's `Option<usize>`.
-#[derive(Clone, Copy)]
-pub enum Current {
-    Static(u32),
-    Unset,
-}
-
-// The word of a register without a static. Which static each register holds is lent from function to function as plain words; the
-// enum is made where one is looked at.
-pub const UNSET: u32 = 4_294_967_295;
-
-// What the word of a register says.
-pub fn current_of(word: u32) -> Current
-    ensures { result ≡ current_in word }
+// The static that a register holds; a named register, or a number past the registers, holds none.
+pub fn static_of(regs: &[Option<u32>; MAX_REGS], w: u32) -> Option<u32>
+    ensures { result ≡ get_or regs.now w None }
 {
-    if word == UNSET {
-        Current::Unset
-    } else {
-        Current::Static(word)
-    }
+    regs.get(w as usize).copied().flatten()
 }
 
 // How many statics a destination makes.
@@ -39,14 +21,12 @@ pub fn count_static(w: u32) -> u32
 }
 
 // A written Gen register takes the static `next`.
-fn produce(regs: &mut [u32; MAX_REGS], w: u32, next: u32)
-    requires w_lt_max_regs { w < 256 → w < max_regs }
-    requires next_lt_any { next < any }
-    ensures { currents_in regs.new ≡ Rattle.mir.specs.Renaming.produce w next (currents_in regs.old) }
+fn produce(regs: &mut [Option<u32>; MAX_REGS], w: u32, next: u32)
+    ensures { regs.new ≡ Rattle.mir.specs.Renaming.produce w next regs.old }
 {
-    if w < 256 {
-        let r = w as usize;
-        regs[r] = next;
+    let r = w as usize;
+    if r < MAX_REGS {
+        regs[r] = Some(next);
     }
 }
 
@@ -62,10 +42,9 @@ pub fn count_statics(rec: [u32; 8]) -> u32
 }
 
 // The registers after the destinations of a record; its first new static is `next`.
-fn produce_all(regs: &mut [u32; MAX_REGS], rec: [u32; 8], next: u32)
-    requires rec_value { gens_fit max_regs rec ≡ true }
-    requires next_bound { next + 1 < any }
-    ensures { currents_in regs.new ≡ produced (dests rec) next (currents_in regs.old) }
+fn produce_all(regs: &mut [Option<u32>; MAX_REGS], rec: [u32; 8], next: u32)
+    requires { next + 1 < any }
+    ensures { regs.new ≡ produced (dests rec) next regs.old }
 {
     match dests_of(rec) {
         Dests::Nothing => {}
@@ -80,15 +59,14 @@ fn produce_all(regs: &mut [u32; MAX_REGS], rec: [u32; 8], next: u32)
 }
 
 // The registers after a record.
-pub fn rename(regs: &mut [u32; MAX_REGS], rec: [u32; 8], next: u32)
-    requires rec_value { gens_fit max_regs rec ≡ true }
-    requires next_bound { next + 1 < any }
-    ensures { currents_in regs.new ≡ renamed rec next (currents_in regs.old) }
+pub fn rename(regs: &mut [Option<u32>; MAX_REGS], rec: [u32; 8], next: u32)
+    requires { next + 1 < any }
+    ensures { regs.new ≡ renamed rec next regs.old }
 {
     let kind = rec[0];
     match kind {
         CALL | LABEL => {
-            *regs = [UNSET; MAX_REGS];
+            *regs = [None; MAX_REGS];
         }
         _ => {
             produce_all(regs, rec, next);

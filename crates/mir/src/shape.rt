@@ -1,7 +1,7 @@
 // What the words of a record are, and what the passes do with it: one decision on the kind.
 ghost use Rattle.std.specs.Prelude.{◌≡◌};
 ghost use Rattle.mir.specs.Inner.{listed};
-ghost use Rattle.mir.specs.Shapes.{shape_of, dests};
+ghost use Rattle.mir.specs.Shapes.{shape_of, dests, registers, sources};
 
 use Action::{Clear, Load, LoadArgs, LoadComplex, Mov, Other, Save, SaveComplex};
 
@@ -26,13 +26,13 @@ pub struct Shape {
     pub regs: usize,
     pub dsts: usize,
     pub srcs: usize,
-    // The place of the location's two words, or 0 where the record has none.
+    // The place of the location's two words, or 0 where the record has none: a number, as in the definitions' table of shapes.
     pub loc: usize,
     // The largest value of each word; an unused word's is 0.
     pub most: [u32; 8],
 }
 
-// Kinds that the code names.
+// Kinds that the code names. A kind stays a number: one decision on it, with ranges and with kinds that are none, picks the shape.
 pub const NOP: u32 = 0;
 
 pub const MOV: u32 = 4;
@@ -62,6 +62,7 @@ const REG: u32 = 259;
 
 const SPC: u32 = 2;
 
+// A row of the table: with the fields' names at each of 21 kinds the rows could not be compared.
 fn of(action: Action, regs: usize, dsts: usize, srcs: usize, loc: usize, most: [u32; 8]) -> Shape
     ensures { result ≡ Rattle.mir.specs.Shapes.shape action regs dsts srcs loc most }
 {
@@ -103,7 +104,25 @@ pub fn shape_of(kind: u32) -> Shape
     }
 }
 
-// The destinations of a record: x before y.
+// The register words of a record: its destinations, and after them its sources.
+pub fn registers_of(rec: &[u32; 8]) -> &[u32]
+    ensures { result.now ≡ registers rec.now }
+{
+    let s = shape_of(rec[0]);
+    let end = s.regs + (s.dsts + s.srcs);
+    &rec[s.regs..end]
+}
+
+pub fn sources_of(rec: &[u32; 8]) -> &[u32]
+    ensures { result.now ≡ sources rec.now }
+{
+    let s = shape_of(rec[0]);
+    let from = s.regs + s.dsts;
+    &rec[from..from + s.srcs]
+}
+
+// The destinations of a record: x before y. At most two words, by value: as a slice they would give each of the eight functions that
+// go over them a loop and an invariant, where two calls need neither.
 #[derive(Clone, Copy)]
 pub enum Dests {
     Nothing,

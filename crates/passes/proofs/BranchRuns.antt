@@ -11,7 +11,7 @@ use lib.ListN.{get_or}
 use Rattle.mir.specs.declared.config.Settings.{Settings}
 use Rattle.mir.specs.Answers.{answered, unless}
 use Rattle.mir.specs.Branches.{is_label, is_branch, label_of, past_to}
-use Rattle.mir.specs.Folds.{all_below, any_below, all, first_refusal, last_below}
+use Rattle.mir.specs.Folds.{all_below, any_below, first_refusal, last_below}
 use Rattle.mir.specs.Questions.{refusal, record_refusal, record_no, few_registers, few_args, well_sized, known_kind, fields_fit, words_fit}
 use Rattle.mir.specs.Questions.{pairs_fit, gens_fit, partner_fits, sources_named, sources_since, branch_refusal}
 use Rattle.mir.specs.Records.{record_at, fixed_mark}
@@ -105,7 +105,7 @@ pub record BranchRuns : Type 0 where
 pub branch_runs : BranchRuns
 unfolding shown after thrice thrice_reduced record_at effect is_label label_of last_below jumps target step ended onward steps_to refusal
     record_refusal record_no branch_refusal few_registers few_args well_sized known_kind fields_fit words_fit pairs_fit gens_fit partner_fits
-    sources_named sources_since is_branch past_to all_below any_below all first_refusal fixed_mark gens produced renamed statics_to regs_to shape_of
+    sources_named sources_since is_branch past_to all_below any_below first_refusal fixed_mark gens produced renamed statics_to regs_to shape_of
     dests sources registers consumed ends_to ends_of pairs_from first_below plain_choice choose after_dest word_for after_dests words_for found_all
     is_member joined colored color_step color_to outcome_of out_at outcome_at reduced_to reduced
 branch_runs =

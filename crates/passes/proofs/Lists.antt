@@ -8,7 +8,7 @@ use mathlib.Core.Path.{◌≡◌, refl}
 use Rattle.mir.specs.declared.config.Settings.{Settings}
 use Rattle.mir.specs.Answers.{Report, answered, unless}
 use Rattle.mir.specs.Branches.{is_label, is_branch, label_of, past_to}
-use Rattle.mir.specs.Folds.{all_below, any_below, all, first_refusal}
+use Rattle.mir.specs.Folds.{all_below, any_below, first_refusal}
 use Rattle.mir.specs.Questions.{refusal, record_refusal, record_no, few_registers, few_args, well_sized, known_kind, fields_fit, words_fit}
 use Rattle.mir.specs.Questions.{pairs_fit, gens_fit, partner_fits, sources_named, sources_since, branch_refusal}
 use Rattle.mir.specs.Records.{records, record_at, fixed_mark}
@@ -387,7 +387,7 @@ pub stored_lists : StoredLists
 unfolding of named_registers moves first_free older_holder read_by_others dropped_loads complex_mark complex_loads same_register
     label_and_call branches thirty_two found_halves joining_halves read_halves refusal record_refusal record_no few_registers few_args
     well_sized known_kind fields_fit words_fit pairs_fit gens_fit partner_fits sources_named sources_since branch_refusal is_label is_branch
-    label_of past_to all_below any_below all first_refusal record_at
+    label_of past_to all_below any_below first_refusal record_at
     fixed_mark gens produced renamed statics_to regs_to shape_of dests sources registers consumed ends_to ends_of pairs_from
     first_below plain_choice choose after_dest word_for after_dests words_for found_all is_member joined colored color_step color_to
     outcome_of out_at outcome_at reduced_to reduced

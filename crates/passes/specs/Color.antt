@@ -1,10 +1,7 @@
 -- Public, document 01, section 3: colouring. A colour's life says up to where it is needed; it may hold the value of one
 -- location.
-use Rattle.std.specs.Prelude.{ℕ, zero, suc, ◌+◌, ◌*◌, ◌<◌, max, Bool, true, false, cond, ◌&&◌, ◌||◌, not, List, [], ◌∷◌, ◌++◌, map, ◌⊎◌, ◌≡◌, leb, eqb, length, get_or, set, take, drop, replicate}
-use Rattle.std.proofs.Math.Option.{Option, some, none}
+use Rattle.std.specs.Prelude.{ℕ, zero, suc, ◌+◌, ◌*◌, ◌<◌, max, Bool, true, false, cond, ◌&&◌, ◌||◌, not, List, [], ◌∷◌, ◌++◌, map, ◌⊎◌, ◌≡◌, leb, eqb, length, get_or, set, take, drop, replicate, Option, Some, None}
 use Rattle.mir.specs.declared.config.Settings.{Settings}
-use Rattle.mir.specs.declared.rename.Current.{Current}
-use Rattle.mir.specs.declared.rename.Current.TheVariants.{Static, Unset}
 use Rattle.mir.specs.declared.shape.Action.{Action}
 use Rattle.mir.specs.declared.shape.Action.TheVariants as action
 use Rattle.mir.specs.Records.{record_at, word_at, is_gen, max_regs}
@@ -13,8 +10,6 @@ use Rattle.mir.specs.Shapes.{shape_for, dests, sources}
 use Rattle.passes.specs.declared.alloc.Alloc.{Alloc}
 use Rattle.passes.specs.declared.alloc.Choice.{Choice}
 use Rattle.passes.specs.declared.alloc.Choice.TheVariants.{Found, Free, Empty}
-use Rattle.passes.specs.declared.alloc.Held.{Held}
-use Rattle.passes.specs.declared.alloc.Held.TheVariants.{Nothing, At}
 use Rattle.passes.specs.declared.symbol.Loc.{Loc}
 use Rattle.passes.specs.Create.{ends_of}
 
@@ -40,27 +35,27 @@ pairs_from table first (suc n) = loc (get_or table (first * 2) 0) (get_or table 
 
 -- ---- the colours
 
-abbrev pub alloc : ℕ → Held → Alloc
+abbrev pub alloc : ℕ → Option Loc → Alloc
 alloc life held = record { life = life; loc = held }
 
 abbrev pub colour_at : List Alloc → ℕ → Alloc
-colour_at allocs c = get_or allocs c (alloc 0 Nothing)
+colour_at allocs c = get_or allocs c (alloc 0 None)
 
 -- every life 0, no location
 abbrev pub blank : List Alloc
-blank = replicate max_regs (alloc 0 Nothing)
+blank = replicate max_regs (alloc 0 None)
 
 -- the pool of a choice at instruction i: the colours that are free, that is whose life is at most i
 abbrev pub is_free : ℕ → List Alloc → ℕ → Bool
 is_free i allocs c = leb (colour_at allocs c).life i
 
-abbrev pub holds : Held → Loc → Bool
-holds Nothing l = false
-holds (At m) l = same_loc m l
+abbrev pub holds : Option Loc → Loc → Bool
+holds None l = false
+holds (Some m) l = same_loc m l
 
-abbrev pub is_nothing : Held → Bool
-is_nothing Nothing = true
-is_nothing (At l) = false
+abbrev pub is_nothing : Option Loc → Bool
+is_nothing None = true
+is_nothing (Some l) = false
 
 abbrev pub is_bare : List Alloc → ℕ → Bool
 is_bare allocs c = is_nothing (colour_at allocs c).loc
@@ -70,20 +65,20 @@ holds_at allocs l c = holds (colour_at allocs c).loc l
 
 -- the first number below n for which p holds
 abbrev pub or_next : Option ℕ → Option ℕ → Option ℕ
-or_next (some c) other = some c
-or_next none other = other
+or_next (Some c) other = Some c
+or_next None other = other
 
 unfoldable pub first_below : (ℕ → Bool) → ℕ → Option ℕ
-first_below p zero = none
-first_below p (suc n) = or_next (first_below p n) (cond (p n) (some n) none)
+first_below p zero = None
+first_below p (suc n) = or_next (first_below p n) (cond (p n) (Some n) None)
 
 abbrev pub free_or : Option ℕ → Choice → Choice
-free_or (some c) other = Free c
-free_or none other = other
+free_or (Some c) other = Free c
+free_or None other = other
 
 abbrev pub found_or : Option ℕ → Choice → Choice
-found_or (some c) other = Found c
-found_or none other = other
+found_or (Some c) other = Found c
+found_or None other = other
 
 -- the plain choice among n colours: the first free one without a location, else the first free one; `Empty` is said
 -- where the pool is empty, which never happens on a list that passes
@@ -93,9 +88,9 @@ plain_choice n i allocs =
     (free_or (first_below (is_free i allocs) n) Empty)
 
 -- the choice for a location: the first colour that holds it, free or not, is found; else as the plain choice
-unfoldable pub choose : ℕ → ℕ → Held → List Alloc → Choice
-choose n i Nothing allocs = plain_choice n i allocs
-choose n i (At l) allocs = found_or (first_below (holds_at allocs l) n) (plain_choice n i allocs)
+unfoldable pub choose : ℕ → ℕ → Option Loc → List Alloc → Choice
+choose n i None allocs = plain_choice n i allocs
+choose n i (Some l) allocs = found_or (first_below (holds_at allocs l) n) (plain_choice n i allocs)
 
 abbrev pub is_found : Choice → Bool
 is_found (Found c) = true
@@ -109,7 +104,7 @@ chosen (Free c) = c
 chosen Empty = max_regs
 
 -- giving a colour to a static that ends at `end`: its life becomes the larger, and it holds what was chosen for
-abbrev pub assign : List Alloc → ℕ → ℕ → Held → List Alloc
+abbrev pub assign : List Alloc → ℕ → ℕ → Option Loc → List Alloc
 assign allocs c end held = set allocs c (alloc (max (colour_at allocs c).life end) held)
 
 -- ---- the state: the colours, the colour of each static so far, and the read set in joining order
@@ -121,10 +116,10 @@ pub record Coloring : Type 0 where
 
 -- one destination, for the location that it is wanted with: only a Gen makes a choice, for its static, and a named
 -- register stays as it is
-abbrev pub choice_for : ℕ → ℕ → Held → Coloring → Choice
+abbrev pub choice_for : ℕ → ℕ → Option Loc → Coloring → Choice
 choice_for n i held st = choose n i held st.allocs
 
-unfoldable pub after_dest : ℕ → ℕ → List ℕ → ℕ → Held → Coloring → Coloring
+unfoldable pub after_dest : ℕ → ℕ → List ℕ → ℕ → Option Loc → Coloring → Coloring
 after_dest n i ends w held st =
     cond (is_gen w)
     (record {
@@ -134,33 +129,33 @@ after_dest n i ends w held st =
     })
     st
 
-unfoldable pub word_for : ℕ → ℕ → ℕ → Held → Coloring → ℕ
+unfoldable pub word_for : ℕ → ℕ → ℕ → Option Loc → Coloring → ℕ
 word_for n i w held st = cond (is_gen w) (chosen (choice_for n i held st)) w
 
 -- the destinations in order, each with the location that it is wanted with
-unfoldable pub after_dests : ℕ → ℕ → List ℕ → List (ℕ × Held) → Coloring → Coloring
+unfoldable pub after_dests : ℕ → ℕ → List ℕ → List (ℕ × Option Loc) → Coloring → Coloring
 after_dests n i ends [] st = st
 after_dests n i ends (d ∷ ds) st = after_dests n i ends ds (after_dest n i ends d.0 d.1 st)
 
-unfoldable pub words_for : ℕ → ℕ → List ℕ → List (ℕ × Held) → Coloring → List ℕ
+unfoldable pub words_for : ℕ → ℕ → List ℕ → List (ℕ × Option Loc) → Coloring → List ℕ
 words_for n i ends [] st = []
 words_for n i ends (d ∷ ds) st =
     word_for n i d.0 d.1 st ∷ words_for n i ends ds (after_dest n i ends d.0 d.1 st)
 
 -- whether every destination was found, x first, then y on the state after x; a non-Gen destination never is. This counts at
 -- a load, of either kind (document 02, request 1)
-unfoldable pub found_all : ℕ → ℕ → List ℕ → List (ℕ × Held) → Coloring → Bool
+unfoldable pub found_all : ℕ → ℕ → List ℕ → List (ℕ × Option Loc) → Coloring → Bool
 found_all n i ends [] st = true
 found_all n i ends (d ∷ ds) st =
     is_gen d.0 && is_found (choice_for n i d.1 st) && found_all n i ends ds (after_dest n i ends d.0 d.1 st)
 
 -- a choice that is not a found one has a colour in its pool: one of the n colours that is free
-abbrev pub HasPool : ℕ → ℕ → Held → Coloring → Type 0
+abbrev pub HasPool : ℕ → ℕ → Option Loc → Coloring → Type 0
 HasPool n i held st =
     (is_found (choice_for n i held st) ≡ true) ⊎ ((c : ℕ) × (c < n) × (is_free i st.allocs c ≡ true))
 
 -- and so has each choice that the destinations make
-abbrev pub HavePools : ℕ → ℕ → List ℕ → List (ℕ × Held) → Coloring → Type 0
+abbrev pub HavePools : ℕ → ℕ → List ℕ → List (ℕ × Option Loc) → Coloring → Type 0
 HavePools n i ends [] st = Unit {0}
 HavePools n i ends (d ∷ ds) st =
     (is_gen d.0 ≡ true → HasPool n i d.1 st) × HavePools n i ends ds (after_dest n i ends d.0 d.1 st)
@@ -168,52 +163,52 @@ HavePools n i ends (d ∷ ds) st =
 -- ---- one record
 
 -- the colour of the static that a source holds
-abbrev pub colour_of : Current → List ℕ → ℕ
-colour_of (Static s) colours = get_or colours s 0
-colour_of Unset colours = 0
+abbrev pub colour_of : Option ℕ → List ℕ → ℕ
+colour_of (Some s) colours = get_or colours s 0
+colour_of None colours = 0
 
-abbrev pub source_word : List Current → List ℕ → ℕ → ℕ
-source_word regs colours w = cond (is_gen w) (colour_of (get_or regs w Unset) colours) w
+abbrev pub source_word : List (Option ℕ) → List ℕ → ℕ → ℕ
+source_word regs colours w = cond (is_gen w) (colour_of (get_or regs w None) colours) w
 
 -- the location that a coloured word's colour holds
-abbrev pub held_by : List Alloc → ℕ → Held
-held_by allocs c = cond (is_gen c) (colour_at allocs c).loc Nothing
+abbrev pub held_by : List Alloc → ℕ → Option Loc
+held_by allocs c = cond (is_gen c) (colour_at allocs c).loc None
 
 -- what x and y are wanted with, by the record's action: Load with the location l, LoadComplex with l and its partner,
 -- Mov with what its source's colour holds
-abbrev pub want_x : Action → Loc → Held → Held
+abbrev pub want_x : Action → Loc → Option Loc → Option Loc
 want_x action.Mov l held = held
-want_x action.Load l held = At l
-want_x action.Save l held = Nothing
-want_x action.LoadComplex l held = At l
-want_x action.SaveComplex l held = Nothing
-want_x action.LoadArgs l held = Nothing
-want_x action.Clear l held = Nothing
-want_x action.Other l held = Nothing
+want_x action.Load l held = Some l
+want_x action.Save l held = None
+want_x action.LoadComplex l held = Some l
+want_x action.SaveComplex l held = None
+want_x action.LoadArgs l held = None
+want_x action.Clear l held = None
+want_x action.Other l held = None
 
-abbrev pub want_y : Action → Loc → Held
-want_y action.Mov l = Nothing
-want_y action.Load l = Nothing
-want_y action.Save l = Nothing
-want_y action.LoadComplex l = At (partner l)
-want_y action.SaveComplex l = Nothing
-want_y action.LoadArgs l = Nothing
-want_y action.Clear l = Nothing
-want_y action.Other l = Nothing
+abbrev pub want_y : Action → Loc → Option Loc
+want_y action.Mov l = None
+want_y action.Load l = None
+want_y action.Save l = None
+want_y action.LoadComplex l = Some (partner l)
+want_y action.SaveComplex l = None
+want_y action.LoadArgs l = None
+want_y action.Clear l = None
+want_y action.Other l = None
 
-abbrev pub wanted : List ℕ → Held → Held → List (ℕ × Held)
+abbrev pub wanted : List ℕ → Option Loc → Option Loc → List (ℕ × Option Loc)
 wanted [] hx hy = []
 wanted (x ∷ ws) hx hy = (x, hx) ∷ map (λ y. (y, hy)) ws
 
 -- Save clears its location from every colour, then gives it to the source's colour if the source is Gen
 abbrev pub without : Loc → Alloc → Alloc
-without l a = alloc a.life (cond (holds a.loc l) Nothing a.loc)
+without l a = alloc a.life (cond (holds a.loc l) None a.loc)
 
 abbrev pub clear : Loc → List Alloc → List Alloc
 clear l allocs = map (without l) allocs
 
 abbrev pub give : ℕ → Loc → List Alloc → List Alloc
-give w l allocs = cond (is_gen w) (set allocs w (alloc (colour_at allocs w).life (At l))) allocs
+give w l allocs = cond (is_gen w) (set allocs w (alloc (colour_at allocs w).life (Some l))) allocs
 
 -- what the action does to the colours after the destinations; x and y are the coloured sources
 abbrev pub update_allocs : Action → Loc → ℕ → ℕ → List Alloc → List Alloc
@@ -261,7 +256,7 @@ pub record Setup : Type 0 where
 abbrev pub sources_at : Setup → ℕ → Coloring → List ℕ
 sources_at u i st = map (source_word (regs_to u.list i) st.colours) (sources (record_at u.list i))
 
-abbrev pub dests_at : Setup → ℕ → Coloring → List (ℕ × Held)
+abbrev pub dests_at : Setup → ℕ → Coloring → List (ℕ × Option Loc)
 dests_at u i st =
     let rec = record_at u.list i in
     wanted (dests rec) (want_x (shape_for rec).action (loc_of rec) (held_by st.allocs (get_or (sources_at u i st) 0 0)))

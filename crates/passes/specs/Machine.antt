@@ -3,7 +3,7 @@
 -- IfElse as request 2 amends it.
 use Rattle.std.specs.Prelude.{ℕ, zero, suc, ◌+◌, ◌<◌, ◌≤◌, ◌^◌, Bool, true, false, cond, ◌&&◌, ◌||◌, not, List, [], ◌∷◌, ◌≡◌, leb, eqb, get_or}
 use Rattle.mir.specs.declared.config.Settings.{Settings}
-use Rattle.mir.specs.declared.questions.Verdict.TheVariants.{Passed}
+use Rattle.mir.specs.Answers.{Passed}
 use Rattle.mir.specs.Branches.{label_at, label_of}
 use Rattle.mir.specs.Folds.{all_below, last_below}
 use Rattle.mir.specs.Questions.{refusal}

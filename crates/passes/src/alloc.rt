@@ -1,19 +1,13 @@
 // The colours' state (document 01, section 3; the Rust's `Alloc`). A colour is a register of the reduced list.
 use crate::symbol::Loc;
 
-// At most one location: the Rust's `Option<Loc>`.
-#[derive(Clone, Copy)]
-pub enum Held {
-    Nothing,
-    At(Loc),
-}
-
-// A colour, as the definitions have it; the walks keep it in plain words (`Slot`).
+// A colour, as the definitions have it; the walks keep all in one struct of plain words (`Allocs`).
 #[derive(Clone, Copy)]
 pub struct Alloc {
     // The colour is needed up to this instruction.
     pub life: u32,
-    pub loc: Held,
+    // At most one location.
+    pub loc: Option<Loc>,
 }
 
 // What a choice comes to. `Empty` is the answer for an empty pool; on a list that passes it is never given.

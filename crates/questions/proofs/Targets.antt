@@ -1,47 +1,48 @@
 -- Question 16: what the words that are read say, the table of numbers (one put in, one taken out, none there), and what a branch is refused by.
 -- By whether two places are the same.
-use Prim.Native.Nat.{ℕ, ◌+◌, ◌*◌, ◌/◌, ◌%◌, ◌<◌}
+use Prim.Native.Nat.{ℕ, zero, suc, ◌≤◌, ◌+◌, ◌-◌, ◌*◌, ◌/◌, ◌%◌, ◌<◌}
 use mathlib.Core.Bool.{Bool, true, false, cond, not}
-use mathlib.Core.List.{List}
+use mathlib.Core.List.{List, []}
 use mathlib.Core.Path.{◌≡◌, refl, sym, ◌∙◌}
-use native.Mathlib.Decide.{ℕ_discrete}
+use native.Mathlib.Decide.{ℕ_discrete, dec_lt}
 use native.Mathlib.Omega.{arith}
 use lib.Dec.{eqb}
-use lib.ListN.{length, get_or, set}
-use lib.Seq.{get_or-set_same, get_or-set_other}
+use lib.ListN.{length, get_or, set, take, drop}
+use lib.Seq.{get_or-set_same, get_or-set_other, get_or-take, get_or-drop}
 use borrow.Author.Tests.{eq-eqb, ne_eqb, eqb-true}
-use Rattle.questions.specs.declared.branches.Target.{Target}
-use Rattle.questions.specs.declared.branches.Target.TheVariants.{To, Nowhere}
-use Rattle.mir.specs.Branches.{label_at, is_label, is_branch, label_of}
-use Rattle.questions.specs.Table.{target_of, slot_of, holds, Taken, is_left, Landed}
+use Rattle.std.specs.Prelude.{Option, Some, None}
+use Rattle.std.specs.List.{position, position_or_len}
+use Rattle.std.proofs.lemmas.List.Sums.{fails_before_first}
+use Rattle.std.proofs.lemmas.Grind.{common_steps}
+use Rattle.mir.specs.Branches.{is_label, is_branch, label_of}
+use Rattle.questions.specs.Table.{Collected, Without, target_of, slot_of, holds, Taken, is_left}
 use Rattle.mir.specs.Questions.{has_label, branch_by}
 use Rattle.mir.specs.Records.{records, record_at}
 use Rattle.mir.specs.Shapes.{label}
-use Rattle.mir.proofs.Folds.{Unrefused, any_some, any_none, any_same, any_kept}
-use Rattle.mir.proofs.Records.{word_is, kind_is}
+use Rattle.mir.proofs.Folds.{Unrefused, unrefused_more, any_some, any_none, any_same, any_kept}
 
 -- ---- a Label's words, and a branch's
-pub label_is : (list : List ℕ) (i : ℕ) → get_or list (i * 8) 0 ≡ label → (name : ℕ) → label_at list name i ≡ eqb (get_or list (i * 8 + 1) 0) name
+pub label_is : (rec : List ℕ) → get_or rec 0 0 ≡ label → (name : ℕ) → is_label name rec ≡ eqb (get_or rec 1 0) name
 unfolding is_label
-label_is list i e name = rw (kind_is list i, e, word_is list i 1 (omega arith))
+label_is rec e name = rw e
 
-pub label_not : (list : List ℕ) (i : ℕ) → (get_or list (i * 8) 0 ≡ label → ⊥) → (name : ℕ) → label_at list name i ≡ false
+pub label_not : (rec : List ℕ) → (get_or rec 0 0 ≡ label → ⊥) → (name : ℕ) → is_label name rec ≡ false
 unfolding is_label
-label_not list i h name = rw (kind_is list i, ne_eqb _ _ h)
+label_not rec h name = rw (ne_eqb _ _ h)
 
 -- what the code says of a record's target
-pub goes_to : (rec : List ℕ) {target : Target} {number : ℕ} → target ≡ target_of rec → target ≡ To number
+pub goes_to : (rec : List ℕ) {target : Option ℕ} {number : ℕ} → target ≡ target_of rec → target ≡ Some number
     → (is_branch rec ≡ true) × (label_of rec ≡ number)
 goes_to rec {target} {number} e told = go (is_branch rec) (label_of rec) (sym e ∙ told)
   where
-    go : (b : Bool) (l : ℕ) → cond b (To l) Nowhere ≡ To number → (b ≡ true) × (l ≡ number)
+    go : (b : Bool) (l : ℕ) → cond b (Some l) None ≡ Some number → (b ≡ true) × (l ≡ number)
     go true l h = (refl, cc)
     go false l h = (cc, cc)
 
-pub goes_nowhere : (rec : List ℕ) {target : Target} → target ≡ target_of rec → target ≡ Nowhere → is_branch rec ≡ false
+pub goes_nowhere : (rec : List ℕ) {target : Option ℕ} → target ≡ target_of rec → target ≡ None → is_branch rec ≡ false
 goes_nowhere rec {target} e told = go (is_branch rec) (label_of rec) (sym e ∙ told)
   where
-    go : (b : Bool) (l : ℕ) → cond b (To l) Nowhere ≡ Nowhere → b ≡ false
+    go : (b : Bool) (l : ℕ) → cond b (Some l) None ≡ None → b ≡ false
     go true l h = cc
     go false l h = refl
 
@@ -99,13 +100,6 @@ module _ (table : List ℕ) (len : length table ≡ 4096) (p : ℕ) (within : p 
 
 -- ---- question 16 of a record
 
--- the records passed, as a walk has them and as the functions say it
-pub landed : {list : List ℕ} {i : ℕ} → Unrefused (branch_by list) (records list) i → Landed list i
-landed u = record { within = u.within; passed = u.passed }
-
-pub unrefused : {list : List ℕ} {i : ℕ} → Landed list i → Unrefused (branch_by list) (records list) i
-unrefused h = record { within = h.within; passed = h.passed }
-
 module _ (list : List ℕ) (i : ℕ) where
   pub by_none : is_branch (record_at list i) ≡ false → branch_by list i ≡ 0
   by_none e = rw e
@@ -123,3 +117,38 @@ module _ (list : List ℕ) (i : ℕ) where
       go : (b : Bool) → is_branch (record_at list i) ≡ b → branch_by list i ≡ cond (is_left table (record_at list i)) 16 0
       go true e = rw (e, settled e) (refused (has_label list (label_of (record_at list i))))
       go false e = rw e
+
+-- records that follow each other and are not refused
+pub unrefused_until : (list : List ℕ) (from until : ℕ) → Unrefused (branch_by list) (records list) from → from ≤ until → until ≤ records list
+    → ((i : ℕ) → from ≤ i → i < until → branch_by list i ≡ 0) → Unrefused (branch_by list) (records list) until
+unrefused_until list from zero u a l h =
+    let e : from ≡ 0 = omega arith in
+    rw e at u
+unrefused_until list from (suc n) u a l h = go (dec_lt n from) (λ f. unrefused_until list from n u f (omega arith) (λ i b m. h i b (omega arith)))
+  where
+    go : Dec (n < from) → (from ≤ n → Unrefused (branch_by list) (records list) n) → Unrefused (branch_by list) (records list) (suc n)
+    go (yes m) before =
+        let e : from ≡ suc n = omega arith in
+        rw e at u
+    go (no g) before =
+        let e : suc n ≡ n + 1 = omega arith in
+        rw e (unrefused_more (before (omega arith)) (omega arith) refl (h n (omega arith) (omega arith)))
+
+-- a round's records, the branches among them in the table without the Labels' numbers
+module _ {list before : List ℕ} (after : List ℕ) {from until : ℕ} (round : Collected list from until before) (struck : Without (has_label list) before after) where
+  pub left_is : (i : ℕ) → from ≤ i → i < until → branch_by list i ≡ cond (is_left after (record_at list i)) 16 0
+  left_is i a b = by_left list i after (λ br. rw (struck (label_of (record_at list i)), round.held i a b br))
+
+-- a part of the records, from one on
+pub part_at : (list : List ℕ) (rows : List (List ℕ)) {from until : ℕ} → ((i : ℕ) → i < records list → get_or rows i [] ≡ record_at list i)
+    → until ≤ records list → (i : ℕ) → from ≤ i → i < until → get_or (take (until - from) (drop from rows)) (i - from) [] ≡ record_at list i
+part_at list rows {from} {until} each u i a b =
+    let m : i - from < until - from = omega arith in
+    let e : from + (i - from) ≡ i = omega arith in
+    rw (get_or-take, get_or-drop, e) (each i (omega arith))
+
+-- where the search finds none, none passes
+pub position_none : {X : Type 0} (p : X → Bool) (xs : List X) (d : X) → position p xs ≡ None → (k : ℕ) → k < length xs → p (get_or xs k d) ≡ false
+position_none p xs d e k l =
+    let all : length xs ≤ position_or_len p xs = grind (arith, common_steps) in
+    fails_before_first p xs k d (omega arith)

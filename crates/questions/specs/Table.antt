@@ -1,17 +1,13 @@
 -- Inner: no promise is made in these words. How question 16 is asked: a table of the numbers of branches, from which each Label
 -- takes its own.
-use Rattle.std.specs.Prelude.{ℕ, ◌+◌, ◌*◌, ◌/◌, ◌%◌, ◌<◌, ◌≤◌, Bool, true, false, cond, not, ◌&&◌, List, ◌≡◌, eqb, get_or}
-use Rattle.mir.specs.declared.questions.Verdict.TheVariants.{Passed}
+use Rattle.std.specs.Prelude.{ℕ, ◌+◌, ◌*◌, ◌/◌, ◌%◌, ◌<◌, ◌≤◌, Bool, true, false, cond, not, ◌&&◌, List, Option, Some, None, ◌≡◌, eqb, get_or}
 use Rattle.mir.specs.Branches.{is_branch, label_of}
-use Rattle.mir.specs.Folds.{any_below, first_refusal}
-use Rattle.mir.specs.Questions.{has_label, branch_by}
+use Rattle.mir.specs.Folds.{any_below}
 use Rattle.mir.specs.Records.{records, record_at}
-use Rattle.questions.specs.declared.branches.Target.{Target}
-use Rattle.questions.specs.declared.branches.Target.TheVariants.{To, Nowhere}
 
--- where a record goes, as the code has it
-abbrev pub target_of : List ℕ → Target
-target_of rec = cond (is_branch rec) (To (label_of rec)) Nowhere
+-- the number of the Label that a record goes to, as the code has it
+abbrev pub target_of : List ℕ → Option ℕ
+target_of rec = cond (is_branch rec) (Some (label_of rec)) None
 
 -- the table of numbers: a number's slot, whose places are the eight from eight times the slot on, and a number is in the table if
 -- it stands at one of them
@@ -34,11 +30,6 @@ pub record Room (table : List ℕ) (s p : ℕ) : Type 0 where
   pub free : p < 4096 → Taken table p → ⊥
   pub full : 4096 ≤ p → (q : ℕ) → q / 8 ≡ s → Taken table q
 
--- record by record, none below i is refused by question 16
-pub record Landed (list : List ℕ) (i : ℕ) : Type 0 where
-  pub within : i ≤ records list
-  pub passed : first_refusal (branch_by list) i ≡ Passed
-
 -- the number of a branch is put into the table, if one of its places is empty: `done` says whether it is there
 pub record Put (rec before after : List ℕ) (done : Bool) : Type 0 where
   pub kept : (number : ℕ) → holds before number ≡ true → holds after number ≡ true
@@ -58,15 +49,3 @@ Without p before after = (number : ℕ) → holds after number ≡ (holds before
 -- a branch whose number is in the table
 abbrev pub is_left : List ℕ → List ℕ → Bool
 is_left table rec = cond (is_branch rec) (holds table (label_of rec)) false
-
--- between two records, the numbers of the branches without a Label are those in the table
-abbrev pub Settled : List ℕ → ℕ → ℕ → List ℕ → Type 0
-Settled list from until table =
-    (i : ℕ) → from ≤ i → i < until → is_branch (record_at list i) ≡ true
-    → holds table (label_of (record_at list i)) ≡ not (has_label list (label_of (record_at list i)))
-
--- the first branch before `until` without a Label, or `until`
-pub record FirstLeft (list : List ℕ) (until i : ℕ) : Type 0 where
-  pub before : i ≤ until
-  pub passed : first_refusal (branch_by list) i ≡ Passed
-  pub bad : i < until → branch_by list i ≡ 16

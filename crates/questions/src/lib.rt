@@ -5,30 +5,30 @@
 pub mod branches;
 
 ghost use Rattle.std.specs.Prelude.{◌≡◌};
+ghost use Rattle.mir.specs.Answers.{verdict_in};
 ghost use Rattle.mir.specs.Questions.{refusal};
 
 use crate::branches::check_branches;
 use mir::config::{MAX_REGS, Settings};
-use mir::questions::{Verdict, check_records, well_sized};
+use mir::questions::{check_records, well_sized};
+use mir::refusal::{Question, Refusal};
 
 // All questions; `room` is the answer to question 4, which the operation that lends the buffers gives.
-pub fn check(list: &[u32], table: &[u32], settings: Settings, room: bool) -> Verdict
-    ensures { result ≡ refusal room settings list.now table.now }
+pub fn check(list: &[u32], table: &[u32], settings: Settings, room: bool) -> Result<(), Refusal>
+    ensures { verdict_in result ≡ refusal room settings list.now table.now }
 {
     if MAX_REGS < settings.count_regs as usize {
-        return Verdict::Refused(1, 0);
+        return Err(Question::FewRegisters.of_list());
     }
     if 65_535 < settings.args {
-        return Verdict::Refused(2, 0);
+        return Err(Question::FewArgs.of_list());
     }
     if !well_sized(list.len(), table.len()) {
-        return Verdict::Refused(3, 0);
+        return Err(Question::Lengths.of_list());
     }
     if !room {
-        return Verdict::Refused(4, 0);
+        return Err(Question::Room.of_list());
     }
-    match check_records(list, table, settings.count_regs) {
-        Verdict::Passed => check_branches(list),
-        Verdict::Refused(number, index) => Verdict::Refused(number, index),
-    }
+    check_records(list, table, settings.count_regs)?;
+    check_branches(list)
 }

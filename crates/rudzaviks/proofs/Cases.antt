@@ -5,7 +5,7 @@ use Prim.Native.Nat.{ℕ}
 use mathlib.Core.List.{List, [], ◌∷◌}
 use mathlib.Core.Path.{◌≡◌, refl}
 use lib.ListN.{replicate}
-use Rattle.mir.specs.declared.questions.Verdict.TheVariants.{Passed, Refused}
+use Rattle.mir.specs.Answers.{Passed, Refused}
 use Rattle.mir.specs.Folds.{first_refusal}
 use Rattle.mir.specs.Questions.{refusal, record_refusal, branch_refusal, few_registers, few_args, well_sized, known_kind, shape_no, shape_refusal, sizes_refusal, refusal_beside}
 use Rattle.mir.specs.Records.{record_at}

@@ -6,13 +6,15 @@ use mathlib.Core.List.{List, []}
 use mathlib.Core.Path.{◌≡◌, sym}
 use lib.ListN.{length}
 use borrow.Author.Tests.{le-leb, lt-leb}
-use Rattle.allocator.specs.declared.Answer.{Answer}
+use Rattle.std.specs.Prelude.{Result}
+use Rattle.mir.specs.declared.refusal.Refusal.{Refusal}
+use Rattle.walks.specs.declared.Counts.{Counts}
 use Rattle.walks.specs.Lent.{Lent}
 use Rattle.allocator.specs.Optimize.{Optimized, room_in, verdict_of, report, records_in}
 use Rattle.passes.specs.Contract.{counts_of}
 use Rattle.mir.specs.declared.config.Settings.{Settings}
-use Rattle.mir.specs.declared.questions.Verdict.{Verdict}
-use Rattle.mir.specs.declared.questions.Verdict.TheVariants.{Passed, Refused}
+use Rattle.mir.specs.Answers.{Verdict}
+use Rattle.mir.specs.Answers.{Passed, Refused}
 use Rattle.mir.specs.Answers.{unless}
 use Rattle.mir.specs.Questions.{refusal}
 use Rattle.mir.proofs.Clash.{clash}
@@ -22,7 +24,7 @@ use Rattle.rudzaviks.specs.Exports.{RudzaviksOptimize, verdict_with, report_word
 
 module _ {s : Settings} {list table : List ℕ} {held : Lent} {counts : List ℕ} where
   -- an answer as `optimize` gave it
-  pub entry_answered : {now : Lent} {result given : Answer} {now_counts : List ℕ} → 7 ≤ length counts
+  pub entry_answered : {now : Lent} {result given : Result Counts Refusal} {now_counts : List ℕ} → 7 ≤ length counts
       → Optimized s list table held now result → result ≡ given → now_counts ≡ written (λ values. values) (report given) counts
       → RudzaviksOptimize s list table held counts now now_counts (report_word records_word (report given))
   unfolding verdict_of verdict_with

@@ -3,26 +3,28 @@
 -- are read back as the words; demand 3 is then the theorem, put to these.
 use Prim.Native.Nat.{ℕ, ◌+◌, ◌*◌, ◌≤◌}
 use mathlib.Core.List.{List, ◌∷◌}
-use mathlib.Core.Path.{◌≡◌}
+use mathlib.Core.Path.{◌≡◌, sym, ap, ◌∙◌}
 use native.Mathlib.Omega.{arith}
 use lib.Dec.{leb}
-use lib.ListN.{length, take, drop}
+use lib.ListN.{length, take, drop, replicate}
 use borrow.Author.Tests.{leb-true}
 use Rattle.walks.specs.declared.Counts.{Counts}
 use Rattle.passes.specs.Contract.{counts_of}
-use Rattle.allocator.specs.Optimize.{left}
+use Rattle.allocator.specs.Optimize.{report, left}
 use Rattle.walks.specs.Lent.{values_in}
 use Rattle.mir.proofs.Over.{over_take}
-use Rattle.mir.specs.declared.questions.Verdict.{Verdict}
-use Rattle.mir.specs.declared.questions.Verdict.TheVariants.{Passed, Refused}
+use Rattle.mir.specs.Answers.{Verdict}
+use Rattle.mir.specs.Answers.{Passed, Refused}
 use Rattle.mir.specs.Answers.{over, answered, refused, unless}
 use Rattle.mir.proofs.Clash.{clash}
-use Rattle.file.specs.declared.layout.Layout.TheVariants.{Bad}
+use Rattle.std.specs.Prelude.{Some, None, Result, Ok}
+use Rattle.file.specs.declared.layout.Layout.{Layout}
+use Rattle.mir.specs.declared.refusal.Refusal.{Refusal}
 use Rattle.rudzaviks.specs.Exports.{RudzaviksReduce, refusal_word, report_word, records_word, file_words, bytes_verdict}
 use Rattle.file.specs.File.{bytes_of, record_count, layout_of, file_verdict, file_counts, file_reduced}
 use Rattle.file.proofs.layout.Bytes.{words_back}
 use Rattle.file.proofs.FileVerdict.{bad_verdict, accepted, kept, kept_size, kept_few, answered_passed, accepted_preserved}
-use Rattle.file.proofs.Sections.{Sections}
+use Rattle.file.proofs.Sections.{Sections, sections}
 use Rattle.file.proofs.WordBounds.{reduced_small}
 
 bytes_promise : {file held now : List ℕ} {given : ℕ} → given ≡ report_word records_word (unless (bytes_verdict file held) (file_counts file))
@@ -44,7 +46,7 @@ refused_promise : {file held : List ℕ} {number index : ℕ} → bytes_verdict 
     → RudzaviksReduce file held held (refusal_word number index)
 refused_promise v = bytes_promise (rw v) (rw v)
 
-pub bad_bytes : {file held : List ℕ} → layout_of file ≡ Bad → RudzaviksReduce file held held (refusal_word 3 0)
+pub bad_bytes : {file held : List ℕ} → layout_of file ≡ None → RudzaviksReduce file held held (refusal_word 3 0)
 bad_bytes {file} {held} e = refused_promise (bad_verdict (leb (4 + record_count file * 32) (length held)) file e)
 
 refused_is : (v : Verdict) {number index : ℕ} (xs : List ℕ) → refused number index ≡ unless v xs → v ≡ Refused number index
@@ -84,6 +86,12 @@ words {file} {held} {c = c} {last = last} work h a o =
       count = k;
       fit = omega (arith, kept_few h, h.records_are);
     }
+
+-- the same of what `reduce_sections` answers, with a working space of zeros
+pub words_left : {file held : List ℕ} {layout : Layout} {r : Result Counts Refusal} {c : Counts} {last : List ℕ} → layout_of file ≡ Some layout
+    → r ≡ Ok c → report r ≡ unless (file_verdict (leb (4 + layout.records * 32) (length held)) file) (file_counts file)
+    → last ≡ left (file_verdict (leb (4 + layout.records * 32) (length held)) file) (file_reduced file) (replicate 4096 0) → Words file held c last
+words_left found e a o = words (replicate 4096 0) (sections found) (ap report (sym e) ∙ a) o
 
 pub written_promise : {file held now : List ℕ} {c : Counts} {last : List ℕ} → Words file held c last
     → now ≡ over (bytes_of (c.records ∷ take (c.records * 8) last)) held → RudzaviksReduce file held now c.records

@@ -6,9 +6,11 @@ use mathlib.Core.List.{List, []}
 use mathlib.Core.Path.{◌≡◌, sym, ap, ◌∙◌}
 use lib.ListN.{length}
 use borrow.Author.Tests.{le-leb, lt-leb}
-use Rattle.survey.specs.declared.Surveyed.{Surveyed}
-use Rattle.mir.specs.declared.questions.Verdict.{Verdict}
-use Rattle.mir.specs.declared.questions.Verdict.TheVariants.{Passed, Refused}
+use Rattle.std.specs.Prelude.{Result}
+use Rattle.mir.specs.declared.refusal.Refusal.{Refusal}
+use Rattle.survey.specs.declared.Registers.{Registers}
+use Rattle.mir.specs.Answers.{Verdict}
+use Rattle.mir.specs.Answers.{Passed, Refused}
 use Rattle.mir.specs.Answers.{unless}
 use Rattle.survey.specs.Beside.{parts, survey_of, survey_report}
 use Rattle.mir.specs.Questions.{sizes_refusal, refusal_beside}
@@ -19,7 +21,7 @@ use Rattle.rudzaviks.proofs.Written.{written, left_by}
 
 module _ {count_regs label : ℕ} {compress : Bool} {list table held : List ℕ} where
   -- an answer as `survey` gave it
-  pub survey_answered : {result given : Surveyed} {now : List ℕ} → 4 ≤ length held
+  pub survey_answered : {result given : Result Registers Refusal} {now : List ℕ} → 4 ≤ length held
       → survey_report result ≡ survey_of count_regs compress label list table → result ≡ given
       → now ≡ written parts_words (survey_report given) held
       → RudzaviksSurvey count_regs compress label list table held now (report_word place_word (survey_report given))

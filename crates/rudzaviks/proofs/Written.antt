@@ -4,8 +4,8 @@ use Prim.Native.Nat.{ℕ}
 use mathlib.Core.List.{List}
 use mathlib.Core.Path.{◌≡◌, refl}
 use Rattle.allocator.specs.Optimize.{left}
-use Rattle.mir.specs.declared.questions.Verdict.{Verdict}
-use Rattle.mir.specs.declared.questions.Verdict.TheVariants.{Passed, Refused}
+use Rattle.mir.specs.Answers.{Verdict}
+use Rattle.mir.specs.Answers.{Passed, Refused}
 use Rattle.mir.specs.Answers.{over, Report, answered, refused, unless}
 
 -- what an answer's values, as words, or a refusal, leave of a slice

@@ -4,8 +4,8 @@ use Rattle.std.specs.Prelude.{ℕ, ◌+◌, ◌*◌, ◌/◌, ◌%◌, ◌^◌, 
 use Rattle.walks.specs.Lent.{Lent}
 use Rattle.allocator.specs.Optimize.{room_in, left}
 use Rattle.mir.specs.declared.config.Settings.{Settings}
-use Rattle.mir.specs.declared.questions.Verdict.{Verdict}
-use Rattle.mir.specs.declared.questions.Verdict.TheVariants.{Passed}
+use Rattle.mir.specs.Answers.{Verdict}
+use Rattle.mir.specs.Answers.{Passed}
 use Rattle.mir.specs.Answers.{Report, answered, refused, unless}
 use Rattle.survey.specs.Beside.{parts}
 use Rattle.mir.specs.Questions.{refusal, refusal_beside}

@@ -1,29 +1,30 @@
 // The functions that crate rudzaviks_c exports to C: each takes word slices and numbers, and answers in one 64-bit word.
 #![tactic(auto)]
 
-ghost use Rattle.std.specs.Prelude.{◌/◌, ◌%◌, ◌^◌, ◌≤◌, [], ◌∷◌, ◌≡◌, length, get_or};
+ghost use Rattle.std.specs.Prelude.{◌/◌, ◌%◌, ◌^◌, ◌≤◌, [], ◌∷◌, Some, ◌≡◌, length, get_or};
 ghost use Rattle.walks.specs.Lent.{lent, values_in};
 ghost use Rattle.rudzaviks.specs.Exports.{RudzaviksSurvey, RudzaviksOptimize, RudzaviksReduce, refusal_word, report_word, records_word};
-ghost use Rattle.file.specs.declared.layout.Layout.TheVariants as layout;
 ghost use Rattle.file.specs.File.{flag, settings_of, layout_of};
-ghost use Rattle.mir.specs.Answers.{over, unless};
+ghost use Rattle.mir.specs.Answers.{number_of, over, unless, verdict_in};
 ghost use Rattle.survey.specs.Beside.{place_in};
 
-use allocator::{Answer, optimize};
+use allocator::optimize;
 use file::layout::{Layout, layout_of, write_words};
 use file::reduce::reduce_sections;
 use file::settings_of;
 use mir::config::Settings;
-use mir::questions::{Verdict, check_sizes};
+use mir::questions::check_sizes;
+use mir::refusal::{Question, Refusal};
 use questions::check;
-use survey::{Place, Surveyed, survey};
+use survey::survey;
 use walks::Counts;
 
 // A refusal: the question's number above bit 32, the record's index below it.
-fn refusal_word(number: u32, index: u32) -> u64
-    ensures { result ≡ refusal_word number index }
+fn refusal_word(refusal: Refusal) -> u64
+    ensures { result ≡ refusal_word (number_of refusal.question) refusal.index }
 {
-    (number as u64) * 4_294_967_296 + (index as u64)
+    let number = refusal.question.number();
+    (number as u64) * 4_294_967_296 + (refusal.index as u64)
 }
 
 // The settings that a survey looks at.
@@ -33,14 +34,11 @@ fn settings_beside(count_regs: u32, compress: u32) -> Settings
     settings_of(count_regs, 0, 0, 0, compress)
 }
 
-// The label's place as a word: its index, or 4,294,967,295 where it is absent.
-fn place_word(place: Place) -> u32
+// The label's place as a word: its index, or 4,294,967,295 where it is absent, since C gets a word.
+fn place_word(place: Option<u32>) -> u32
     ensures { result ≡ get_or (place_in place) 0 4294967295 }
 {
-    match place {
-        Place::At(index) => index,
-        Place::Absent => 4_294_967_295,
-    }
+    place.unwrap_or(4_294_967_295)
 }
 
 // The parts of a survey at the start of a slice: the mask as two words, the low one first.
@@ -48,10 +46,9 @@ fn write_parts(mask: u64, count: u32, place: u32, parts: &mut [u32])
     requires { 4 ≤ length parts.old }
     ensures { parts.new ≡ over (mask % 2 ^ 32 ∷ mask / 2 ^ 32 ∷ count ∷ place ∷ []) parts.old }
 {
-    parts[0] = (mask % 4_294_967_296) as u32;
-    parts[1] = (mask / 4_294_967_296) as u32;
-    parts[2] = count;
-    parts[3] = place;
+    let low = (mask % 4_294_967_296) as u32;
+    let high = (mask / 4_294_967_296) as u32;
+    parts[..4].copy_from_slice(&[low, high, count, place]);
 }
 
 // `survey`: the label's place, or a refusal; the mask, how many registers it names and the place go into `parts`.
@@ -70,12 +67,12 @@ pub fn rudzaviks_survey(
     }
     let settings = settings_beside(count_regs, compress);
     match survey(list, table, settings, label) {
-        Surveyed::Registers(mask, count, place) => {
-            let index = place_word(place);
-            write_parts(mask, count, index, parts);
+        Ok(registers) => {
+            let index = place_word(registers.place);
+            write_parts(registers.mask, registers.count, index, parts);
             index as u64
         }
-        Surveyed::Refused(number, index) => refusal_word(number, index),
+        Err(refusal) => refusal_word(refusal),
     }
 }
 
@@ -84,21 +81,18 @@ fn write_counts(c: Counts, counts: &mut [u32])
     requires { 7 ≤ length counts.old }
     ensures { counts.new ≡ over (values_in c) counts.old }
 {
-    counts[0] = c.records;
-    counts[1] = c.statics;
-    counts[2] = c.members;
-    counts[3] = c.nops;
-    counts[4] = c.loads;
-    counts[5] = c.moves;
-    counts[6] = c.saves;
+    counts[..7].copy_from_slice(&[
+        c.records, c.statics, c.members, c.nops, c.loads, c.moves, c.saves,
+    ]);
 }
 
-fn verdict_word(verdict: Verdict) -> u64
-    ensures { result ≡ report_word records_word (unless verdict []) }
+// 0 for a list that passes.
+fn verdict_word(answer: Result<(), Refusal>) -> u64
+    ensures { result ≡ report_word records_word (unless (verdict_in answer) []) }
 {
-    match verdict {
-        Verdict::Passed => 0,
-        Verdict::Refused(number, index) => refusal_word(number, index),
+    match answer {
+        Ok(()) => 0,
+        Err(refusal) => refusal_word(refusal),
     }
 }
 
@@ -124,29 +118,29 @@ pub fn rudzaviks_optimize(
         return verdict_word(check(list, table, settings, false));
     }
     match optimize(list, table, settings, out, colours, ends, set) {
-        Answer::Reduced(c) => {
+        Ok(c) => {
             write_counts(c, counts);
             c.records as u64
         }
-        Answer::Refused(number, index) => refusal_word(number, index),
+        Err(refusal) => refusal_word(refusal),
     }
 }
 
 // A well-formed file reduced into bytes.
-fn reduce_bytes(file: &[u8], pairs: usize, records: usize, out: &mut [u8]) -> u64
-    requires { layout_of file.now ≡ layout.Counts pairs records }
+fn reduce_bytes(file: &[u8], layout: Layout, out: &mut [u8]) -> u64
+    requires { layout_of file.now ≡ Some layout }
     ensures { RudzaviksReduce file.now out.old out.new result }
 {
-    let room = 4 + records * 32 <= out.len();
+    let room = 4 + layout.records * 32 <= out.len();
     let mut words = [0u32; 4096];
-    match reduce_sections(file, pairs, records, room, &mut words) {
-        Answer::Reduced(c) => {
+    match reduce_sections(file, layout, room, &mut words) {
+        Ok(c) => {
             let count = c.records;
             let end = (count as usize) * 8;
             write_words(count, &words[..end], out);
             count as u64
         }
-        Answer::Refused(number, index) => refusal_word(number, index),
+        Err(refusal) => refusal_word(refusal),
     }
 }
 
@@ -155,7 +149,7 @@ pub fn rudzaviks_reduce(file: &[u8], out: &mut [u8]) -> u64
     ensures { RudzaviksReduce file.now out.old out.new result }
 {
     match layout_of(file) {
-        Layout::Counts(pairs, records) => reduce_bytes(file, pairs, records, out),
-        Layout::Bad => refusal_word(3, 0),
+        Some(layout) => reduce_bytes(file, layout, out),
+        None => refusal_word(Question::Lengths.of_list()),
     }
 }

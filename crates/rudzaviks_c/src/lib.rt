@@ -1,4 +1,5 @@
-// The functions exported to C, a static library: each calls the function of its name in crate rudzaviks, and says what that says.
+// The functions exported to C, a static library: each calls the function of its name in crate rudzaviks, and says what that says:
+// a crate is a library, which the programs need, or a static library, which C needs.
 #![tactic(auto)]
 
 ghost use Rattle.walks.specs.Lent.{lent};

@@ -1,6 +1,6 @@
 -- The index of the read set: it tells of each near location whether it is a member, and goes on doing so as members join.
 -- Two near locations have the same bit exactly if they are the same.
-use Prim.Native.Nat.{ℕ, zero, suc, ◌/◌, ◌%◌, ◌^◌, ◌<◌}
+use Prim.Native.Nat.{ℕ, ◌/◌, ◌%◌, ◌^◌, ◌<◌}
 use mathlib.Core.Bool.{Bool, true, false, cond, ◌||◌, or-true, or-false}
 use mathlib.Core.List.{List, [], ◌∷◌, ◌++◌}
 use mathlib.Core.Logic.{◌⊎◌, inl, inr}
@@ -10,11 +10,12 @@ use lib.Bits.{bit_or}
 use lib.Dec.{ltb, eqb}
 use lib.ListN.{length, get_or, replicate, length-set, length-replicate}
 use lib.Seq.{get_or-set_same, get_or-set_other}
+use Rattle.std.proofs.lemmas.List.{get_or-replicate}
 use borrow.Author.Tests.{ltb-true, eq-eqb, ne_eqb}
 use Rattle.mir.proofs.Clash.{clash}
 use Rattle.mir.proofs.Renaming.{and_both}
 use Rattle.passes.specs.declared.symbol.Loc.{Loc}
-use Rattle.passes.specs.Color.{same_loc, is_member, join}
+use Rattle.passes.specs.Color.{same_loc, is_member}
 use Rattle.theorems.proofs.Choice.{same_loc_lem}
 use Rattle.theorems.proofs.ReadSet.{member_snoc}
 use Rattle.theorems.proofs.Update.{same_or}
@@ -35,17 +36,12 @@ module _ (l : Loc) (h : is_near l ≡ true) where
 
 -- ---- no member yet
 
-zero_at : (n k : ℕ) → ◌≡◌ {A = ℕ} (get_or (replicate n 0) k 0) 0
-zero_at zero k = refl
-zero_at (suc n) zero = refl
-zero_at (suc n) (suc k) = zero_at n k
-
 pub indexed_none : Indexed (replicate 3072 0) []
 unfolding is_member
 indexed_none =
     record {
       size = length-replicate {A = ℕ} 3072 0;
-      tells = λ l h. rw (zero_at 3072 (cell_of l / 64)) (has_none (cell_of l % 64));
+      tells = λ l h. rw (get_or-replicate {A = ℕ} 3072 (cell_of l / 64) 0 0 (word_in l h (replicate 3072 0) (length-replicate {A = ℕ} 3072 0))) (has_none (cell_of l % 64));
     }
 
 -- ---- one member more
@@ -105,10 +101,3 @@ module _ (seen : List ℕ) (ms : List Loc) (l : Loc) (h : Indexed seen ms) where
         size = noted_size (is_near l);
         tells = λ m k. tell m k (is_near l) refl (same_loc l m) refl ∙ sym (member_snoc m l ms);
       }
-
--- a location that joins: it is a member already, or it is noted
-pub indexed_old : (seen : List ℕ) (ms : List Loc) (l : Loc) → is_member l ms ≡ true → Indexed seen ms → Indexed seen (join ms l)
-indexed_old seen ms l e h = rw e h
-
-pub indexed_join : (seen : List ℕ) (ms : List Loc) (l : Loc) {new : List ℕ} → is_member l ms ≡ false → new ≡ noted l seen → Indexed seen ms → Indexed new (join ms l)
-indexed_join seen ms l e n h = rw (e, n) (indexed_more seen ms l h)

@@ -1,25 +1,25 @@
 -- Locations as pairs of words: reading them back, one more of them, whether one is among them.
 -- By induction on the number of pairs; a list without its first two words has the pairs from the second on.
 use Prim.Native.Nat.{ℕ, zero, suc, ◌+◌, ◌*◌, ◌-◌, ◌<◌, ◌≤◌}
-use mathlib.Core.Bool.{Bool, true, false, cond}
+use mathlib.Core.Bool.{Bool, true, false, cond, or-true}
 use mathlib.Core.List.{List, [], ◌∷◌, ◌++◌}
-use mathlib.Core.Logic.{◌⊎◌, ⊎_elim}
-use mathlib.Core.Path.{◌≡◌, refl, sym, ap, subst, ◌∙◌}
+use mathlib.Core.Path.{◌≡◌, refl, sym, ap, ◌∙◌}
 use native.Mathlib.Nat.{add-zero, zero-add, add-suc, suc-add}
 use native.Mathlib.Numerals.{add-one}
 use native.Mathlib.Omega.{arith}
-use lib.ListN.{length, get_or, set, drop, length-append}
-use Rattle.mir.proofs.Folds.{below_suc}
+use lib.ListN.{length, get_or, set, drop, length-append, length-set}
+use lib.Seq.{get_or-set_other}
 use Rattle.passes.specs.declared.symbol.Loc.{Loc}
-use Rattle.passes.specs.Color.{loc, same_loc, pairs_from, is_member, join, joined}
+use Rattle.passes.specs.Color.{same_loc, pairs_from, is_member, join, joined}
 use Rattle.theorems.proofs.Members.{pairs_length}
-use Rattle.theorems.proofs.ReadSet.{member_snoc}
+use Rattle.theorems.proofs.ReadSet.{member_append, member_snoc}
+use Rattle.sets.specs.Sets.{pair_at}
+use Rattle.sets.specs.declared.ReadSet.{ReadSet}
+use Rattle.sets.proofs.Index.{indexed_more}
+use Rattle.sets.specs.Members.{members_in, SetHolds}
 use Rattle.mir.specs.Answers.{over}
 use Rattle.passes.specs.Contract.{words_of}
 use Rattle.mir.proofs.Over.{over_next, over_length, over_over}
-
-abbrev pub pair_at : List ℕ → ℕ → Loc
-pair_at t j = loc (get_or t (j * 2) 0) (get_or t (j * 2 + 1) 0)
 
 twice : (f : ℕ) → suc f * 2 ≡ suc (suc (f * 2))
 twice f = omega arith
@@ -74,20 +74,18 @@ module _ (t : List ℕ) (l : Loc) where
   unfolding is_member pairs_from
   member_none = refl
 
-  pub member_more : (j : ℕ) (b : Bool) → is_member l (pairs_from t 0 j) ≡ false → same_loc (pair_at t j) l ≡ b → is_member l (pairs_from t 0 (j + 1)) ≡ b
-  member_more j b h e = rw (add-one j, pairs_next t 0 j, member_snoc l (pair_at t (0 + j)) (pairs_from t 0 j), h, zero-add j) e
+  pub member_more : (j : ℕ) → is_member l (pairs_from t 0 j) ≡ false → same_loc (pair_at t j) l ≡ false → is_member l (pairs_from t 0 (j + 1)) ≡ false
+  member_more j h e = rw (add-one j, pairs_next t 0 j, member_snoc l (pair_at t (0 + j)) (pairs_from t 0 j), h, zero-add j) e
 
-  pub member_stays : (j n : ℕ) → j ≤ n → is_member l (pairs_from t 0 j) ≡ true → is_member l (pairs_from t 0 n) ≡ true
-  member_stays j zero h e = subst (λ k. is_member l (pairs_from t 0 k) ≡ true) (le_zero j h) e
+  pub member_found : (j n : ℕ) → same_loc (pair_at t j) l ≡ true → j < n → is_member l (pairs_from t 0 n) ≡ true
+  member_found j n e h =
+      let rest : (n - suc j) + suc j ≡ n = omega arith in
+      let found = go (n - suc j) in
+      rw rest at found
     where
-      le_zero : (k : ℕ) → k ≤ 0 → k ≡ 0
-      le_zero k q = omega arith
-  member_stays j (suc n) h e =
-      ⊎_elim (λ (k : j < suc n). rw (pairs_next t 0 n, member_snoc l (pair_at t (0 + n)) (pairs_from t 0 n), member_stays j n (omega arith) e))
-      (λ (k : j ≡ suc n). rw (← k) e) (le_or j n h)
-    where
-      le_or : (j n : ℕ) → j ≤ suc n → (j < suc n) ⊎ (j ≡ suc n)
-      le_or j n q = below_suc (omega arith)
+      go : (k : ℕ) → is_member l (pairs_from t 0 (k + suc j)) ≡ true
+      go zero = rw (zero-add (suc j), pairs_next t 0 j, member_snoc l (pair_at t (0 + j)) (pairs_from t 0 j), zero-add j, e) (or-true (is_member l (pairs_from t 0 j)))
+      go (suc k) = rw (suc-add k (suc j), pairs_next t 0 (k + suc j)) (member_append l (pairs_from t 0 (k + suc j)) (pair_at t (0 + (k + suc j)) ∷ []) (go k))
 
 -- ---- joining
 
@@ -96,34 +94,47 @@ unfolding joined
 joined_next ms [] l = refl
 joined_next ms (k ∷ ls) l = joined_next (join ms k) ls l
 
--- a location that joins the pairs of a list, written after them
-module _ (t : List ℕ) (n : ℕ) (h : n * 2 ≤ length t) (l : Loc) where
-  ms : List Loc
-  ms = pairs_from t 0 n
+-- a location written after the pairs of a list
+module _ (t : List ℕ) (n : ℕ) (l : Loc) (room : n * 2 + 2 ≤ length t) where
+  held : List Loc
+  held = pairs_from t 0 n
 
-  pub insert_old : is_member l (pairs_from t 0 n) ≡ true
-      → (n ≡ length (join (pairs_from t 0 n) l)) × (t ≡ over (words_of (join (pairs_from t 0 n) l)) t)
-  insert_old e = rw e (sym (pairs_length t 0 n), sym (words_same t n h))
-
-  pub insert_count : is_member l (pairs_from t 0 n) ≡ false → n + 1 ≡ length (join (pairs_from t 0 n) l)
-  insert_count e = rw (e, length-append (pairs_from t 0 n) (l ∷ []), pairs_length t 0 n) refl
-
-  pub insert_words : is_member l (pairs_from t 0 n) ≡ false → n * 2 + 2 ≤ length t
-      → set (set t (n * 2) l.space) (n * 2 + 1) l.index ≡ over (words_of (join (pairs_from t 0 n) l)) t
-  unfolding ms
-  insert_words e r =
-      rw (e, words_next ms l)
-      (ap (λ x. set (set x (n * 2) l.space) (n * 2 + 1) l.index) (sym (words_same t n h))
-      ∙ (ap (λ k. set (set (over (words_of ms) t) k l.space) (n * 2 + 1) l.index) (sym len)
-      ∙ (ap (λ x. set x (n * 2 + 1) l.index) (over_next (words_of ms) t l.space (omega (arith, len)))
-      ∙ (ap (λ k. set (over (words_of ms ++ l.space ∷ []) t) k l.index) (sym len_one)
-      ∙ over_next (words_of ms ++ l.space ∷ []) t l.index (omega (arith, len_one))))))
+  pub pair_words : set (set t (n * 2) l.space) (n * 2 + 1) l.index ≡ over (words_of (pairs_from t 0 n ++ l ∷ [])) t
+  unfolding held
+  pair_words =
+      rw (words_next held l)
+      (ap (λ x. set (set x (n * 2) l.space) (n * 2 + 1) l.index) (sym (words_same t n (omega arith)))
+      ∙ (ap (λ k. set (set (over (words_of held) t) k l.space) (n * 2 + 1) l.index) (sym len)
+      ∙ (ap (λ x. set x (n * 2 + 1) l.index) (over_next (words_of held) t l.space (omega (arith, len)))
+      ∙ (ap (λ k. set (over (words_of held ++ l.space ∷ []) t) k l.index) (sym len_one)
+      ∙ over_next (words_of held ++ l.space ∷ []) t l.index (omega (arith, len_one))))))
     where
-      len : length (words_of ms) ≡ n * 2
-      len = words_length ms ∙ ap (λ k. k * 2) (pairs_length t 0 n)
+      len : length (words_of held) ≡ n * 2
+      len = words_length held ∙ ap (λ k. k * 2) (pairs_length t 0 n)
 
-      len_one : length (words_of ms ++ l.space ∷ []) ≡ n * 2 + 1
-      len_one = length-append (words_of ms) (l.space ∷ []) ∙ ap (λ k. k + 1) len
+      len_one : length (words_of held ++ l.space ∷ []) ≡ n * 2 + 1
+      len_one = length-append (words_of held) (l.space ∷ []) ∙ ap (λ k. k + 1) len
+
+  pub pair_joins : pairs_from (set (set t (n * 2) l.space) (n * 2 + 1) l.index) 0 (n + 1) ≡ pairs_from t 0 n ++ l ∷ []
+  pair_joins =
+      let more : n + 1 ≡ length (pairs_from t 0 n ++ l ∷ []) = sym (length-append (pairs_from t 0 n) (l ∷ []) ∙ ap (λ k. k + 1) (pairs_length t 0 n)) in
+      rw (pair_words, more) (pairs_back (pairs_from t 0 n ++ l ∷ []) (drop (length (words_of (pairs_from t 0 n ++ l ∷ []))) t))
+
+-- what joins as a new member has room
+pub room_for : (t : List ℕ) (n : ℕ) (l : Loc) → is_member l (pairs_from t 0 n) ≡ false → length (join (pairs_from t 0 n) l) * 2 ≤ length t → n * 2 + 2 ≤ length t
+room_for t n l e h =
+    let r = rw e at h in
+    omega (arith, r, length-append (pairs_from t 0 n) (l ∷ []), pairs_length t 0 n)
+
+-- what is written behind the pairs changes none of them
+pairs_agree : (t u : List ℕ) (f n : ℕ) → ((k : ℕ) → k < (f + n) * 2 → get_or t k 0 ≡ get_or u k 0) → pairs_from t f n ≡ pairs_from u f n
+unfolding pairs_from
+pairs_agree t u f zero same = refl
+pairs_agree t u f (suc n) same =
+    rw (same (f * 2) (omega arith), same (f * 2 + 1) (omega arith)) (ap (λ r. pair_at u f ∷ r) (pairs_agree t u (suc f) n (λ k l. same k (omega arith))))
+
+pub pairs_set : (t : List ℕ) (n k v : ℕ) → n * 2 ≤ k → pairs_from (set t k v) 0 n ≡ pairs_from t 0 n
+pairs_set t n k v h = pairs_agree (set t k v) t 0 n (λ j l. get_or-set_other t k j v 0 (λ e. omega arith))
 
 pub join_grows : (ms : List Loc) (l : Loc) → length ms ≤ length (join ms l)
 join_grows ms l = go (is_member l ms)
@@ -144,63 +155,53 @@ joined_mono ms t f (suc k) j =
     rw (suc-add k j, pairs_next t f (k + j), joined_next ms (pairs_from t f (k + j)) (pair_at t (f + (k + j))))
     (omega (arith, joined_mono ms t f k j, join_grows (joined ms (pairs_from t f (k + j))) (pair_at t (f + (k + j)))))
 
--- the members, read off the slice that they were written to
-pub set_members : (ms : List Loc) (old : List ℕ) {words : List ℕ} {n : ℕ} → words ≡ over (words_of ms) old → n ≡ length ms → pairs_from words 0 n ≡ ms
-set_members ms old e f = rw (e, f) (pairs_back ms (drop (length (words_of ms)) old))
-
--- ---- the set's slice: its members, and all else as it was
-
-pub record SetHolds (old words : List ℕ) (count : ℕ) (members : List Loc) : Type 0 where
-  pub starts : words ≡ over (words_of members) old
-  pub counted : count ≡ length members
-  pub room : length members * 2 ≤ length old
-
-pub set_first : (t : List ℕ) (n : ℕ) → n * 2 ≤ length t → SetHolds t t n (pairs_from t 0 n)
-set_first t n h = record { starts = sym (words_same t n h); counted = sym (pairs_length t 0 n); room = rw (pairs_length t 0 n) h }
-
-module _ {old words : List ℕ} {count : ℕ} {members : List Loc} (h : SetHolds old words count members) where
-  pub set_pairs : pairs_from words 0 count ≡ members
-  set_pairs = set_members members old h.starts h.counted
-
-  pub set_length : length words ≡ length old
-  set_length = ap length h.starts ∙ over_length (words_of members) old (rw (words_length members) h.room)
-
-  pub set_within : count * 2 ≤ length words
-  set_within = rw (set_length, h.counted) h.room
-
-  -- more members, written over these
-  pub set_grows : (ks : List Loc) {words' : List ℕ} {count' : ℕ} → length members ≤ length ks → length ks * 2 ≤ length old
-      → words' ≡ over (words_of ks) words → count' ≡ length ks → SetHolds old words' count' ks
-  set_grows ks l r e f =
-      record {
-        starts =
-            let more : length (words_of members) ≤ length (words_of ks) = rw (words_length members, words_length ks) (omega (arith, l)) in
-            e ∙ (ap (over (words_of ks)) h.starts ∙ over_over (words_of ks) (words_of members) old more);
-        counted = f;
-        room = r;
-      }
+pub joined_none : (ms : List Loc) (table : List ℕ) (first : ℕ) → joined ms (pairs_from table first 0) ≡ ms
+unfolding joined pairs_from
+joined_none ms table first = refl
 
 -- the pairs of a table join one after the other, with room for all of them
-module _ {old words : List ℕ} {c : ℕ} (base : List Loc) (table : List ℕ) (first count j : ℕ) (l : j < count)
-    (room : length (joined base (pairs_from table first count)) * 2 ≤ length old) (h : SetHolds old words c (joined base (pairs_from table first j))) where
-  pub with_next : join (pairs_from words 0 c) (pair_at table (first + j)) ≡ joined base (pairs_from table first (j + 1))
-  with_next =
-      ap (λ ms. join ms (pair_at table (first + j))) (set_pairs h)
-      ∙ (sym (joined_next base (pairs_from table first j) (pair_at table (first + j)))
-      ∙ ap (joined base) (sym (pairs_next table first j) ∙ ap (pairs_from table first) (sym (add-one j))))
+module _ (ms : List Loc) (table : List ℕ) (first j : ℕ) where
+  pub join_next : join (joined ms (pairs_from table first j)) (pair_at table (first + j)) ≡ joined ms (pairs_from table first (j + 1))
+  join_next =
+      sym (joined_next ms (pairs_from table first j) (pair_at table (first + j)))
+      ∙ ap (joined ms) (sym (pairs_next table first j) ∙ ap (pairs_from table first) (sym (add-one j)))
 
-  next_room : length (joined base (pairs_from table first (j + 1))) * 2 ≤ length old
-  next_room =
+  pub join_fewer : (count : ℕ) → j < count → length (joined ms (pairs_from table first (j + 1))) ≤ length (joined ms (pairs_from table first count))
+  join_fewer count l =
       let e : (count - (j + 1)) + (j + 1) ≡ count = omega arith in
-      let m = joined_mono base table first (count - (j + 1)) (j + 1) in
-      omega (arith, room, rw e at m)
+      let m = joined_mono ms table first (count - (j + 1)) (j + 1) in
+      rw e at m
 
-  pub extend_room : length (join (pairs_from words 0 c) (pair_at table (first + j))) * 2 ≤ length words
-  extend_room = rw (with_next, set_length h) next_room
+-- ---- the set
 
-  pub extend_next : {words' : List ℕ} {c' : ℕ} → words' ≡ over (words_of (join (pairs_from words 0 c) (pair_at table (first + j)))) words
-      → c' ≡ length (join (pairs_from words 0 c) (pair_at table (first + j))) → SetHolds old words' c' (joined base (pairs_from table first (j + 1)))
-  extend_next e f =
-      set_grows h (joined base (pairs_from table first (j + 1)))
-      (rw (← with_next) (omega (arith, join_grows (pairs_from words 0 c) (pair_at table (first + j)), ap length (set_pairs h)))) next_room
-      (e ∙ ap (λ ks. over (words_of ks) words) with_next) (f ∙ ap length with_next)
+-- it holds its own members
+pub holds_own : (s : ReadSet) → SetHolds s (members_in s) s.words.now
+holds_own s =
+    record {
+      members = refl;
+      words = sym (words_same s.words.now s.len s.room);
+      fits = rw (pairs_length s.words.now 0 s.len) s.room;
+    }
+
+module _ {s : ReadSet} {ms : List Loc} {before : List ℕ} (h : SetHolds s ms before) where
+  pub holds_length : length s.words.now ≡ length before
+  holds_length = ap length h.words ∙ over_length (words_of ms) before (rw (words_length ms) h.fits)
+
+  -- the words of a set that grows
+  pub holds_more : {s' : ReadSet} {ks : List Loc} → length ms ≤ length ks → SetHolds s' ks s.words.now → SetHolds s' ks before
+  holds_more {s'} {ks} grows h' =
+      record {
+        members = h'.members;
+        words = h'.words ∙ (ap (over (words_of ks)) h.words ∙ over_over (words_of ks) (words_of ms) before (rw (words_length ms, words_length ks) (omega (arith, grows))));
+        fits = rw (← holds_length) h'.fits;
+      }
+
+-- what `scan` and `insert` need
+pub ruleset member_rules = (member_none, member_more, member_found)
+
+pub ruleset insert_rules = (holds_own, pair_words, pair_joins, pairs_set, room_for, indexed_more, length-set)
+
+-- what a step of the set needs: it holds its own members, and it grows
+pub ruleset set_rules = (holds_own, holds_length, holds_more, join_grows)
+
+pub ruleset extend_rules = (set_rules, joined_none, join_next, join_fewer)

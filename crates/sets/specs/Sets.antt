@@ -3,7 +3,11 @@ use Rattle.std.specs.Prelude.{ℕ, ◌+◌, ◌*◌, ◌/◌, ◌%◌, ◌^◌, 
 use Rattle.std.specs.Int.Bits.{bit_or}
 use Rattle.colours.specs.Masks.{has_bit}
 use Rattle.passes.specs.declared.symbol.Loc.{Loc}
-use Rattle.passes.specs.Color.{is_member}
+use Rattle.passes.specs.Color.{is_member, loc}
+
+-- the location whose words are a list's jth pair
+abbrev pub pair_at : List ℕ → ℕ → Loc
+pair_at t j = loc (get_or t (j * 2) 0) (get_or t (j * 2 + 1) 0)
 
 -- the index is three rows of 65,536 bits, one row for each space, in words of 64 bits; the cells that have a bit are near,
 -- and a bit is set if its cell is a member

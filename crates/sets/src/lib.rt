@@ -1,30 +1,17 @@
-// The read set (document 01, section 3; the Rust's `locs`): the locations that records of the output read, two words each,
-// in joining order and without repeats.
+// The read set (document 01, section 3; the Rust's `locs`): the locations that records of the output read, in joining order
+// and without repeats.
 #![tactic(auto)]
 
-ghost use Rattle.std.specs.Prelude.{◌+◌, ◌*◌, ◌/◌, ◌<◌, ◌≤◌, true, ◌≡◌, length, get_or};
-ghost use Rattle.mir.specs.Answers.{over};
-ghost use Rattle.passes.specs.Contract.{words_of};
-ghost use Rattle.sets.specs.Sets.{Indexed, is_near, cell_of, bit_at, with_bit, noted};
-ghost use Rattle.passes.specs.Color as color;
-ghost use Rattle.passes.specs.Color.{same_loc, pairs_from, is_member, join, joined};
+ghost use Rattle.std.specs.Prelude.{◌+◌, ◌*◌, ◌/◌, ◌<◌, ◌≤◌, [], true, ◌≡◌, length};
+ghost use Rattle.sets.specs.Sets.{Indexed, is_near, cell_of, bit_at, with_bit, noted, pair_at};
+ghost use Rattle.passes.specs.Color.{pairs_from, is_member, join, joined};
 
 use passes::symbol::Loc;
-
-fn same_loc(l: Loc, m: Loc) -> bool
-    ensures { result ≡ same_loc l m }
-{
-    if l.space == m.space {
-        l.index == m.index
-    } else {
-        false
-    }
-}
 
 // The location whose words are the `j`th pair.
 fn loc_at(words: &[u32], j: usize) -> Loc
     requires { j * 2 + 2 ≤ length words.now }
-    ensures { result ≡ color.loc (get_or words.now (j * 2) 0) (get_or words.now (j * 2 + 1) 0) }
+    ensures { result ≡ pair_at words.now j }
 {
     Loc {
         space: words[j * 2],
@@ -32,29 +19,11 @@ fn loc_at(words: &[u32], j: usize) -> Loc
     }
 }
 
-// Whether the location is one of the members, looked for among all.
-fn scan(set: &[u32], members: usize, l: Loc) -> bool
-    requires { members * 2 ≤ length set.now }
-    ensures { result ≡ is_member l (pairs_from set.now 0 members) }
-{
-    let mut j = 0;
-    while j < members {
-        if same_loc(loc_at(set, j), l) {
-            return true;
-        }
-        j += 1;
-    }
-    false
-}
-
 // Whether the index has a bit for the location.
 fn is_near(l: Loc) -> bool
     ensures { result ≡ is_near l }
 {
-    if 3 <= l.space {
-        return false;
-    }
-    l.index < 65_536
+    l.space < 3 && l.index < 65_536
 }
 
 // The place of its bit.
@@ -66,28 +35,23 @@ fn cell(l: Loc) -> usize
 }
 
 // Whether the bit at place `c` is set.
-fn bit_at(seen: &[u64], c: usize) -> bool
-    requires { c / 64 < length seen.now }
+fn bit_at(seen: &[u64; 3_072], c: usize) -> bool
+    requires { c / 64 < 3072 }
     ensures { result ≡ bit_at seen.now c }
 {
-    let w = c / 64;
-    let b = (c % 64) as u64;
-    (seen[w] >> b) % 2 == 1
+    (seen[c / 64] >> (c % 64)) % 2 == 1
 }
 
 // Sets the bit at place `c`.
-fn set_bit(seen: &mut [u64], c: usize)
-    requires { c / 64 < length seen.old }
+fn set_bit(seen: &mut [u64; 3_072], c: usize)
+    requires { c / 64 < 3072 }
     ensures { seen.new ≡ with_bit seen.old c }
 {
-    let w = c / 64;
-    let b = (c % 64) as u64;
-    seen[w] = seen[w] | (1 << b);
+    seen[c / 64] |= 1 << (c % 64);
 }
 
 // Marks the location in the index.
-fn note(seen: &mut [u64], l: Loc)
-    requires { length seen.old ≡ 3072 }
+fn note(seen: &mut [u64; 3_072], l: Loc)
     ensures { seen.new ≡ noted l seen.old }
 {
     if is_near(l) {
@@ -95,61 +59,91 @@ fn note(seen: &mut [u64], l: Loc)
     }
 }
 
-// Whether the location is one of the members.
-pub fn contains(set: &[u32], members: usize, l: Loc, seen: &[u64]) -> bool
-    requires indexed { Indexed seen.now (pairs_from set.now 0 members) }
-    requires members_in_bounds { members * 2 ≤ length set.now }
-    ensures { result ≡ is_member l (pairs_from set.now 0 members) }
-{
-    if is_near(l) {
-        return bit_at(seen, cell(l));
-    }
-    scan(set, members, l)
+/// The members lie in `words`, which are lent, two words each. `seen` is their index: a bit for each of the first 65,536
+/// cells of each space.
+#[derive(Drop)]
+pub struct ReadSet<'a> {
+    pub words: &'a mut [u32],
+    pub len: usize,
+    pub seen: [u64; 3_072],
+    pub ghost room: { len * 2 ≤ length words.now },
+    pub ghost index: { Indexed seen (pairs_from words.now 0 len) },
 }
 
-// The location joins, unless it is a member already. Gives the number of members.
-pub fn insert(set: &mut [u32], members: usize, l: Loc, seen: &mut [u64]) -> usize
-    requires indexed { Indexed seen.old (pairs_from set.old 0 members) }
-    requires members_in_bounds { members * 2 ≤ length set.old }
-    requires l_in_bounds { length (join (pairs_from set.old 0 members) l) * 2 ≤ length set.old }
-    ensures index { Indexed seen.new (join (pairs_from set.old 0 members) l) }
-    ensures count { result ≡ length (join (pairs_from set.old 0 members) l) }
-    ensures words { set.new ≡ over (words_of (join (pairs_from set.old 0 members) l)) set.old }
-{
-    if contains(set, members, l, seen) {
-        return members;
-    }
-    note(seen, l);
-    set[members * 2] = l.space;
-    set[members * 2 + 1] = l.index;
-    members + 1
-}
+impl<'a> ReadSet<'a> {
+    ghost use Rattle.sets.specs.Members.{members_in, SetHolds};
 
-// Each of `count` pairs of the table joins, from the pair `first` on.
-pub fn extend(
-    set: &mut [u32],
-    members: usize,
-    table: &[u32],
-    first: u32,
-    count: u32,
-    seen: &mut [u64],
-) -> usize
-    requires indexed { Indexed seen.old (pairs_from set.old 0 members) }
-    requires members_in_bounds { members * 2 ≤ length set.old }
-    requires count_in_bounds { first + count ≤ length table.now / 2 }
-    requires count_in_bounds_2 { length (joined (pairs_from set.old 0 members) (pairs_from table.now first count)) * 2 ≤ length set.old }
-    ensures index { Indexed seen.new (joined (pairs_from set.old 0 members) (pairs_from table.now first count)) }
-    ensures count { result ≡ length (joined (pairs_from set.old 0 members) (pairs_from table.now first count)) }
-    ensures words { set.new ≡ over (words_of (joined (pairs_from set.old 0 members) (pairs_from table.now first count))) set.old }
-{
-    let from = first as usize;
-    let n = count as usize;
-    let mut m = members;
-    let mut j = 0;
-    while j < n {
-        let l = loc_at(table, from + j);
-        m = insert(set, m, l, seen);
-        j += 1;
+    /// No members yet.
+    #[tactic(auto, using(crate::proofs::Index::indexed_none), unfolding(passes::specs::Color::pairs_from))]
+    pub fn new(words: &'a mut [u32]) -> ReadSet<'a>
+        ensures same_reference { result.words.ghost_name ≡ words.entry.ghost_name }
+        ensures words { result.words.now ≡ words.old }
+        ensures empty { members_in result ≡ [] }
+    {
+        ReadSet {
+            words,
+            len: 0,
+            seen: [0; 3_072],
+        }
     }
-    m
+
+    #[tactic(auto, using(theorems::proofs::Members::pairs_length))]
+    pub fn len(&self) -> usize
+        ensures { result ≡ length (members_in self.now) }
+    {
+        self.len
+    }
+
+    // Looks for a location among all members.
+    #[tactic(auto, using(crate::proofs::Pairs::member_rules))]
+    fn scan(&self, l: Loc) -> bool
+        ensures { result ≡ is_member l (members_in self.now) }
+    {
+        for j in 0..self.len {
+            if loc_at(self.words, j) == l {
+                return true;
+            }
+        }
+        false
+    }
+
+    pub fn contains(&self, l: Loc) -> bool
+        ensures { result ≡ is_member l (members_in self.now) }
+    {
+        if is_near(l) {
+            return bit_at(&self.seen, cell(l));
+        }
+        self.scan(l)
+    }
+
+    /// The location joins, unless it is a member already.
+    #[tactic(auto, using(crate::proofs::Pairs::insert_rules))]
+    pub fn insert(&mut self, l: Loc)
+        requires { length (join (members_in self.old) l) * 2 ≤ length self.old.words.now }
+        ensures same_reference { self.new.words.ghost_name ≡ self.old.words.ghost_name }
+        ensures holds { SetHolds self.new (join (members_in self.old) l) self.old.words.now }
+    {
+        if self.contains(l) {
+            return;
+        }
+        let at = self.len * 2;
+        self.words[at] = l.space;
+        self.words[at + 1] = l.index;
+        note(&mut self.seen, l);
+        self.len += 1;
+    }
+
+    /// Each of `count` pairs of the table joins, from the pair `first` on.
+    #[tactic(auto, using(crate::proofs::Pairs::extend_rules))]
+    pub fn extend(&mut self, table: &[u32], first: u32, count: u32)
+        requires count_in_bounds { first + count ≤ length table.now / 2 }
+        requires room { length (joined (members_in self.old) (pairs_from table.now first count)) * 2 ≤ length self.old.words.now }
+        ensures same_reference { self.new.words.ghost_name ≡ self.old.words.ghost_name }
+        ensures holds { SetHolds self.new (joined (members_in self.old) (pairs_from table.now first count)) self.old.words.now }
+    {
+        let from = first as usize;
+        for j in 0..count as usize {
+            self.insert(loc_at(table, from + j));
+        }
+    }
 }

@@ -9,25 +9,24 @@ use lib.Count.{ones, ones_in, ones_step}
 use lib.ListN.{length}
 use borrow.Author.Tests.{lt-ltb, le-ltb, eq-eqb, ne_eqb}
 use Rattle.survey.specs.Beside.{bits, counted, mask_of, get_dst}
-use Rattle.mir.specs.Folds.{all}
 use Rattle.mir.specs.Records.{word_at}
 use Rattle.mir.specs.Shapes.{branch_if, shape_of, dests, sources}
 use Rattle.mir.proofs.Shapes.{sources_are}
 
 pub mask_one : (w : ℕ) → w < 256 → mask_of (w ∷ []) ≡ 2 ^ w
-unfolding mask_of all bits
+unfolding mask_of bits
 mask_one w h = rw (lt-ltb w 256 h) (or_zero_r (2 ^ w))
 
 pub mask_named : (w : ℕ) (ws : List ℕ) → 256 ≤ w → mask_of (w ∷ ws) ≡ 0
-unfolding mask_of all
+unfolding mask_of
 mask_named w ws h = rw (le-ltb w 256 h)
 
 pub mask_two : (x y : ℕ) → x < 256 → y < 256 → mask_of (x ∷ y ∷ []) ≡ bit_or (2 ^ x) (2 ^ y)
-unfolding mask_of all bits
+unfolding mask_of bits
 mask_two x y h k = rw (lt-ltb x 256 h, lt-ltb y 256 k, or_zero_r (2 ^ y))
 
 pub mask_second_named : (x y : ℕ) → x < 256 → 256 ≤ y → mask_of (x ∷ y ∷ []) ≡ 0
-unfolding mask_of all
+unfolding mask_of
 mask_second_named x y h k = rw (lt-ltb x 256 h, le-ltb y 256 k)
 
 -- BranchIf counts its condition, every other kind its destinations

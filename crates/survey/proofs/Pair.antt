@@ -7,8 +7,8 @@ use mathlib.Core.List.{List, [], ◌∷◌}
 use mathlib.Core.Path.{◌≡◌, refl}
 use lib.Count.{ones_in}
 use lib.ListN.{length, take, drop}
-use Rattle.mir.specs.declared.questions.Verdict.{Verdict}
-use Rattle.mir.specs.declared.questions.Verdict.TheVariants.{Passed, Refused}
+use Rattle.mir.specs.Answers.{Verdict}
+use Rattle.mir.specs.Answers.{Passed, Refused}
 use Rattle.mir.specs.Answers.{Report, answered, refused, unless}
 use Rattle.survey.specs.Beside.{used_mask, parts, survey_of}
 use Rattle.mir.specs.Branches.{label_at}

@@ -9,7 +9,7 @@ use lib.Count.{ones_in}
 use Rattle.mir.specs.Answers.{Report, answered, refused}
 use Rattle.survey.specs.Beside.{counted, bits, mask_of, get_dst, mask_to, used_mask, parts, survey_of}
 use Rattle.mir.specs.Branches.{is_label}
-use Rattle.mir.specs.Folds.{all_below, all, first_refusal, last_below}
+use Rattle.mir.specs.Folds.{all_below, first_refusal, last_below}
 use Rattle.mir.specs.Questions.{few_registers, well_sized, known_kind, fields_fit, words_fit, pairs_fit, gens_fit, shape_no, shape_refusal, sizes_refusal, refusal_beside}
 use Rattle.mir.specs.Records.{record_at}
 use Rattle.mir.specs.Shapes.{row, shape_of, dests, sources, registers}
@@ -103,7 +103,7 @@ pub record SurveyCases : Type 0 where
   pub refused_7 : survey_of 2 false 7 labels [] ≡ refused 7 5
 
 pub survey_cases : SurveyCases
-unfolding counted bits mask_of get_dst mask_to used_mask is_label last_below parts survey_of all_below all first_refusal few_registers well_sized
+unfolding counted bits mask_of get_dst mask_to used_mask is_label last_below parts survey_of all_below first_refusal few_registers well_sized
     known_kind fields_fit words_fit pairs_fit gens_fit shape_no shape_refusal sizes_refusal refusal_beside record_at shape_of dests sources
     registers ones_in
 survey_cases =

@@ -1,14 +1,13 @@
 -- Public, document 01, section 6, and document 02, request 13: the used registers and the place of a label, in one survey.
-use Rattle.std.specs.Prelude.{ℕ, zero, suc, ◌-◌, ◌^◌, Bool, true, cond, List, [], ◌∷◌, eqb}
+use Rattle.std.specs.Prelude.{ℕ, zero, suc, ◌-◌, ◌^◌, Bool, true, cond, List, [], ◌∷◌, Option, Some, None, Result, Ok, Err, eqb}
 use Rattle.std.specs.Int.Bits.{bit_or}
 use Rattle.std.specs.Int.Count.{ones_in}
-use Rattle.survey.specs.declared.Surveyed.{Surveyed}
-use Rattle.survey.specs.declared.Surveyed.TheVariants.{Registers, Refused}
-use Rattle.survey.specs.declared.Place.{Place}
-use Rattle.survey.specs.declared.Place.TheVariants.{At, Absent}
-use Rattle.mir.specs.Answers.{Report, answered, refused, unless}
+use Rattle.survey.specs.declared.Registers.{Registers}
+use Rattle.mir.specs.declared.refusal.Refusal.{Refusal}
+use Rattle.mir.specs.Answers.{Report, answered, refused, number_of, unless}
 use Rattle.mir.specs.Branches.{label_at}
-use Rattle.mir.specs.Folds.{all, last_below}
+use Rattle.std.specs.List.{list_all}
+use Rattle.mir.specs.Folds.{last_below}
 use Rattle.mir.specs.Questions.{refusal_beside}
 use Rattle.mir.specs.Records.{records, record_at, word_at, is_gen, max_regs}
 use Rattle.mir.specs.Shapes.{branch_if, dests, sources}
@@ -23,7 +22,7 @@ bits [] = 0
 bits (w ∷ ws) = bit_or (2 ^ w) (bits ws)
 
 unfoldable pub mask_of : List ℕ → ℕ
-mask_of ws = cond (all is_gen ws) (bits ws) 0
+mask_of ws = cond (list_all is_gen ws) (bits ws) 0
 
 unfoldable pub get_dst : List ℕ → ℕ
 get_dst rec = mask_of (counted rec)
@@ -52,10 +51,10 @@ unfoldable pub survey_of : ℕ → Bool → ℕ → List ℕ → List ℕ → Re
 survey_of count_regs compress name list table = unless (refusal_beside true count_regs list table) (parts compress name list)
 
 -- what the code's answer says
-abbrev pub place_in : Place → List ℕ
-place_in (At index) = index ∷ []
-place_in Absent = []
+abbrev pub place_in : Option ℕ → List ℕ
+place_in (Some index) = index ∷ []
+place_in None = []
 
-abbrev pub survey_report : Surveyed → Report
-survey_report (Registers mask count place) = answered (mask ∷ count ∷ place_in place)
-survey_report (Refused number index) = refused number index
+abbrev pub survey_report : Result Registers Refusal → Report
+survey_report (Ok r) = answered (r.mask ∷ r.count ∷ place_in r.place)
+survey_report (Err r) = refused (number_of r.question) r.index

@@ -9,22 +9,20 @@ ghost use Rattle.mir.specs.Questions.{gens_fit, well_sized, shape_refusal};
 ghost use Rattle.mir.specs.Records.{max_regs};
 
 use mir::config::Settings;
-use mir::questions::{Verdict, check_shape, check_sizes};
-use mir::record::record_at;
+use mir::questions::{check_shape, check_sizes};
+use mir::record::records_of;
+use mir::refusal::Refusal;
 use mir::shape::{BRANCH_IF, Dests, LABEL, dests_of};
 
-// Where a list has a label: the index of the last Label with its number, or nowhere.
-#[derive(Clone, Copy)]
-pub enum Place {
-    At(u32),
-    Absent,
-}
-
-// The answer of `survey`: the mask of used registers, how many it names, and the label's place; or a refusal's number and index.
-#[derive(Clone, Copy)]
-pub enum Surveyed {
-    Registers(u64, u32, Place),
-    Refused(u32, u32),
+// The registers that a list uses, and where it has a label.
+#[derive(Clone, Copy, Debug, PartialEq, Eq)]
+pub struct Registers {
+    // A bit for each register.
+    pub mask: u64,
+    // How many the mask names.
+    pub count: u32,
+    // The index of the last Label with the number that was looked for.
+    pub place: Option<u32>,
 }
 
 // The bit of a Gen register; none of a named one.
@@ -35,7 +33,7 @@ fn bit(w: u32) -> u64
     if w < 256 { 1 << w } else { 0 }
 }
 
-// The bits of two registers, if both are Gen.
+// The bits of two registers, if both are Gen: not `bit` twice, since one that is not Gen leaves out the other.
 fn two_bits(x: u32, y: u32) -> u64
     requires x_lt_max_regs { x < 256 → x < max_regs }
     requires y_lt_max_regs { y < 256 → y < max_regs }
@@ -70,22 +68,14 @@ fn get_dst(rec: [u32; 8]) -> u64
 fn is_label(rec: [u32; 8], label: u32) -> bool
     ensures { result ≡ is_label label rec }
 {
-    if rec[0] == LABEL {
-        rec[1] == label
-    } else {
-        false
-    }
+    rec[0] == LABEL && rec[1] == label
 }
 
 // The place found so far, once record `i` has been looked at.
-fn later_label(found: Place, rec: [u32; 8], i: u32, label: u32) -> Place
+fn later_label(found: Option<u32>, rec: [u32; 8], i: u32, label: u32) -> Option<u32>
     ensures { place_in result ≡ cond (is_label label rec) (i ∷ []) (place_in found) }
 {
-    if is_label(rec, label) {
-        Place::At(i)
-    } else {
-        found
-    }
+    if is_label(rec, label) { Some(i) } else { found }
 }
 
 // The mask of a list, by the mask of its records: every register if `compress` is set.
@@ -96,36 +86,44 @@ fn used_mask(mask: u64, compress: bool) -> u64
 }
 
 // The one walk: each record is asked questions 5 to 7 before its registers are counted and its label is looked at.
-fn survey_records(list: &[u32], table: &[u32], settings: Settings, label: u32) -> Surveyed
+fn survey_records(
+    list: &[u32],
+    table: &[u32],
+    settings: Settings,
+    label: u32,
+) -> Result<Registers, Refusal>
     requires count_regs_bound { settings.count_regs ≤ max_regs }
     requires table_value { well_sized (length list.now) (length table.now) ≡ true }
     ensures { survey_report result ≡ unless (shape_refusal table.now settings.count_regs list.now) (parts settings.compress label list.now) }
 {
-    let n = list.len() / 8;
     let mut mask = 0;
-    let mut place = Place::Absent;
-    let mut i = 0;
-    while i < n {
-        let rec = record_at(list, i);
-        let by = check_shape(rec, table, settings.count_regs);
-        if by != 0 {
-            return Surveyed::Refused(by, i as u32);
+    let mut place = None;
+    for (i, &rec) in records_of(list).iter().enumerate() {
+        let answer = check_shape(rec, table, settings.count_regs);
+        if let Err(question) = answer {
+            return Err(question.of_record(i as u32));
         }
         mask |= get_dst(rec);
         let later = later_label(place, rec, i as u32, label);
         place = later;
-        i += 1;
     }
     let used = used_mask(mask, settings.compress);
-    Surveyed::Registers(used, u64::count_ones(used), place)
+    Ok(Registers {
+        mask: used,
+        count: used.count_ones(),
+        place,
+    })
 }
 
 // The registers that a list uses, how many they are, and the place of the last Label with the number `label`.
-pub fn survey(list: &[u32], table: &[u32], settings: Settings, label: u32) -> Surveyed
+pub fn survey(
+    list: &[u32],
+    table: &[u32],
+    settings: Settings,
+    label: u32,
+) -> Result<Registers, Refusal>
     ensures { survey_report result ≡ survey_of settings.count_regs settings.compress label list.now table.now }
 {
-    match check_sizes(list.len(), table.len(), settings.count_regs, true) {
-        Verdict::Refused(number, index) => Surveyed::Refused(number, index),
-        Verdict::Passed => survey_records(list, table, settings, label),
-    }
+    check_sizes(list.len(), table.len(), settings.count_regs, true)?;
+    survey_records(list, table, settings, label)
 }

@@ -1,6 +1,7 @@
 -- The renaming of section 2: a static is held by at most one register; ends never fall, a read moves the end to its
 -- record, and a static that no register holds any more has its end behind it.
 -- By induction on the records, one destination and one source at a time.
+use Rattle.std.specs.Prelude.{Option, Some, None}
 use Prim.Native.Nat.{ℕ, zero, suc, ◌+◌, ◌-◌, ◌≤◌, ◌<◌}
 use mathlib.Core.Bool.{Bool, true, false, cond, ◌||◌}
 use mathlib.Core.List.{List, [], ◌∷◌}
@@ -12,9 +13,7 @@ use native.Mathlib.Decide.{dec_lt}
 use lib.Dec.{eqb}
 use lib.ListN.{length, get_or, set, replicate, length-append, length-set, length-replicate, get_or-append, get_or-replicate}
 use lib.Seq.{get_or-set_same, get_or-set_other, set_out, get_or-append-add}
-use Rattle.mir.specs.declared.rename.Current.{Current}
-use Rattle.mir.specs.declared.rename.Current.TheVariants.{Static, Unset}
-use Rattle.mir.specs.Folds.{all}
+use Rattle.std.specs.List.{list_all}
 use Rattle.mir.specs.Records.{records, record_at, word_at, is_gen, max_regs}
 use Rattle.mir.specs.Renaming.{fresh, one, produce, gens, produced, renamed, statics_to, regs_to}
 use Rattle.mir.specs.Shapes.{call, label, dests, sources}
@@ -39,16 +38,16 @@ set_cases l w x d r = ⊎_elim at_w (λ (h : r ≡ w → ⊥). inr (get_or-set_o
 
 -- ---- the registers' statics
 
-pub record Names (regs : List Current) (m : ℕ) : Type 0 where
-  pub below : (r s : ℕ) → get_or regs r Unset ≡ Static s → s < m
-  pub once : (r q s : ℕ) → get_or regs r Unset ≡ Static s → get_or regs q Unset ≡ Static s → r ≡ q
+pub record Names (regs : List (Option ℕ)) (m : ℕ) : Type 0 where
+  pub below : (r s : ℕ) → get_or regs r None ≡ Some s → s < m
+  pub once : (r q s : ℕ) → get_or regs r None ≡ Some s → get_or regs q None ≡ Some s → r ≡ q
 
-unset_fresh : (k r : ℕ) → get_or (replicate k Unset) r Unset ≡ Unset
+unset_fresh : (k r : ℕ) → get_or {A = Option ℕ} (replicate k None) r None ≡ None
 unset_fresh zero r = refl
 unset_fresh (suc k) zero = refl
 unset_fresh (suc k) (suc r) = unset_fresh k r
 
-pub not_fresh : (r s : ℕ) → get_or fresh r Unset ≡ Static s → ⊥
+pub not_fresh : (r s : ℕ) → get_or fresh r None ≡ Some s → ⊥
 not_fresh r s e =
     let u = unset_fresh max_regs r in
     clash (cc)
@@ -57,43 +56,43 @@ names_fresh : (m : ℕ) → Names fresh m
 names_fresh m = record { below = λ r s e. absurd (not_fresh r s e); once = λ r q s e f. absurd (not_fresh r s e) }
 
 -- one destination: its register holds the new static, which is above all others
-module _ (w m : ℕ) (regs : List Current) (names : Names regs m) where
-  pub names_set : Names (set regs w (Static m)) (suc m)
+module _ (w m : ℕ) (regs : List (Option ℕ)) (names : Names regs m) where
+  pub names_set : Names (set regs w (Some m)) (suc m)
   names_set = record { below = below; once = once }
     where
-      held : (r s : ℕ) → get_or (set regs w (Static m)) r Unset ≡ Static s → ((r ≡ w) × (m ≡ s)) ⊎ (get_or regs r Unset ≡ Static s)
+      held : (r s : ℕ) → get_or (set regs w (Some m)) r None ≡ Some s → ((r ≡ w) × (m ≡ s)) ⊎ (get_or regs r None ≡ Some s)
       held r s e =
           ⊎_elim
-          (λ (a : (r ≡ w) × (get_or (set regs w (Static m)) r Unset ≡ Static m)).
+          (λ (a : (r ≡ w) × (get_or (set regs w (Some m)) r None ≡ Some m)).
           let f = a.1 in
           let q : m ≡ s = cc in
           inl (a.0, q))
-          (λ (a : get_or (set regs w (Static m)) r Unset ≡ get_or regs r Unset). inr (sym a ∙ e)) (set_cases regs w (Static m) Unset r)
+          (λ (a : get_or (set regs w (Some m)) r None ≡ get_or regs r None). inr (sym a ∙ e)) (set_cases regs w (Some m) None r)
 
-      below : (r s : ℕ) → get_or (set regs w (Static m)) r Unset ≡ Static s → s < suc m
+      below : (r s : ℕ) → get_or (set regs w (Some m)) r None ≡ Some s → s < suc m
       below r s e =
           ⊎_elim (λ (a : (r ≡ w) × (m ≡ s)). omega (arith, a.1))
-          (λ (a : get_or regs r Unset ≡ Static s). omega (arith, names.below r s a)) (held r s e)
+          (λ (a : get_or regs r None ≡ Some s). omega (arith, names.below r s a)) (held r s e)
 
-      once : (r q s : ℕ) → get_or (set regs w (Static m)) r Unset ≡ Static s → get_or (set regs w (Static m)) q Unset ≡ Static s → r ≡ q
+      once : (r q s : ℕ) → get_or (set regs w (Some m)) r None ≡ Some s → get_or (set regs w (Some m)) q None ≡ Some s → r ≡ q
       once r q s e f =
           ⊎_elim
           (λ (a : (r ≡ w) × (m ≡ s)).
           ⊎_elim (λ (b : (q ≡ w) × (m ≡ s)). a.0 ∙ sym b.0)
-          (λ (b : get_or regs q Unset ≡ Static s). absurd (omega (arith, a.1, names.below q s b))) (held q s f))
-          (λ (a : get_or regs r Unset ≡ Static s).
+          (λ (b : get_or regs q None ≡ Some s). absurd (omega (arith, a.1, names.below q s b))) (held q s f))
+          (λ (a : get_or regs r None ≡ Some s).
           ⊎_elim (λ (b : (q ≡ w) × (m ≡ s)). absurd (omega (arith, b.1, names.below r s a)))
-          (λ (b : get_or regs q Unset ≡ Static s). names.once r q s a b) (held q s f))
+          (λ (b : get_or regs q None ≡ Some s). names.once r q s a b) (held q s f))
           (held r s e)
 
   pub names_produce : Names (produce w m regs) (m + one w)
   names_produce = go (is_gen w)
     where
-      go : (b : Bool) → Names (cond b (set regs w (Static m)) regs) (m + cond b 1 0)
+      go : (b : Bool) → Names (cond b (set regs w (Some m)) regs) (m + cond b 1 0)
       go true = rw (native.Mathlib.Numerals.add-one m) names_set
       go false = rw add-zero names
 
-pub names_produced : (ws : List ℕ) (m : ℕ) (regs : List Current) → Names regs m → Names (produced ws m regs) (m + gens ws)
+pub names_produced : (ws : List ℕ) (m : ℕ) (regs : List (Option ℕ)) → Names regs m → Names (produced ws m regs) (m + gens ws)
 unfolding produced gens
 names_produced [] m regs h = rw add-zero h
 names_produced (w ∷ ws) m regs h = rw (← (add_assoc m (one w) (gens ws))) (names_produced ws (m + one w) (produce w m regs) (names_produce w m regs h))
@@ -112,31 +111,31 @@ names_to list (suc i) = go (eqb (word_at rec 0) call || eqb (word_at rec 0) labe
     go false h = names_produced (dests rec) (statics_to list i) (regs_to list i) h
 
 -- a static below the next number is held after the destinations only where it was held before
-pub produced_old : (ws : List ℕ) (m : ℕ) (regs : List Current) (r s : ℕ) → s < m
-    → get_or (produced ws m regs) r Unset ≡ Static s → get_or regs r Unset ≡ Static s
+pub produced_old : (ws : List ℕ) (m : ℕ) (regs : List (Option ℕ)) (r s : ℕ) → s < m
+    → get_or (produced ws m regs) r None ≡ Some s → get_or regs r None ≡ Some s
 unfolding produced
 produced_old [] m regs r s l e = e
 produced_old (w ∷ ws) m regs r s l e = go (is_gen w) (produced_old ws (m + one w) (produce w m regs) r s (omega arith) e)
   where
-    go : (b : Bool) → get_or (cond b (set regs w (Static m)) regs) r Unset ≡ Static s → get_or regs r Unset ≡ Static s
+    go : (b : Bool) → get_or (cond b (set regs w (Some m)) regs) r None ≡ Some s → get_or regs r None ≡ Some s
     go false f = f
     go true f =
         ⊎_elim
-        (λ (a : (r ≡ w) × (get_or (set regs w (Static m)) r Unset ≡ Static m)).
+        (λ (a : (r ≡ w) × (get_or (set regs w (Some m)) r None ≡ Some m)).
         let g = a.1 in
         let q : m ≡ s = cc in
         absurd (omega arith))
-        (λ (a : get_or (set regs w (Static m)) r Unset ≡ get_or regs r Unset). sym a ∙ f) (set_cases regs w (Static m) Unset r)
+        (λ (a : get_or (set regs w (Some m)) r None ≡ get_or regs r None). sym a ∙ f) (set_cases regs w (Some m) None r)
 
-pub regs_old : (list : List ℕ) (i r s : ℕ) → s < statics_to list i → get_or (regs_to list (suc i)) r Unset ≡ Static s → get_or (regs_to list i) r Unset ≡ Static s
+pub regs_old : (list : List ℕ) (i r s : ℕ) → s < statics_to list i → get_or (regs_to list (suc i)) r None ≡ Some s → get_or (regs_to list i) r None ≡ Some s
 unfolding regs_to renamed
 regs_old list i r s l e = go (eqb (word_at rec 0) call || eqb (word_at rec 0) label) e
   where
     rec : List ℕ
     rec = record_at list i
 
-    go : (b : Bool) → get_or (cond b fresh (produced (dests rec) (statics_to list i) (regs_to list i))) r Unset ≡ Static s
-        → get_or (regs_to list i) r Unset ≡ Static s
+    go : (b : Bool) → get_or (cond b fresh (produced (dests rec) (statics_to list i) (regs_to list i))) r None ≡ Some s
+        → get_or (regs_to list i) r None ≡ Some s
     go true f = absurd (not_fresh r s f)
     go false f = produced_old (dests rec) (statics_to list i) (regs_to list i) r s l f
 
@@ -147,23 +146,22 @@ abbrev pub In : ℕ → List ℕ → Type 0
 In w [] = ⊥
 In w (v ∷ vs) = (w ≡ v) ⊎ In w vs
 
-pub all_in : (p : ℕ → Bool) (ws : List ℕ) (w : ℕ) → all p ws ≡ true → In w ws → p w ≡ true
-unfolding all
+pub all_in : (p : ℕ → Bool) (ws : List ℕ) (w : ℕ) → list_all p ws ≡ true → In w ws → p w ≡ true
 all_in p [] w h m = absurd m
 all_in p (v ∷ vs) w h m =
-    let b = and_both (p v) (all p vs) h in
+    let b = and_both (p v) (list_all p vs) h in
     ⊎_elim (λ (e : w ≡ v). rw e b.0) (λ (k : In w vs). all_in p vs w b.1 k) m
 
-module _ (regs : List Current) (i : ℕ) where
-  ended_length : (k : Current) (ends : List ℕ) → length (ended_at k i ends) ≡ length ends
-  ended_length (Static s) ends = length-set ends s i
-  ended_length Unset ends = refl
+module _ (regs : List (Option ℕ)) (i : ℕ) where
+  ended_length : (k : Option ℕ) (ends : List ℕ) → length (ended_at k i ends) ≡ length ends
+  ended_length (Some s) ends = length-set ends s i
+  ended_length None ends = refl
 
   consume_length : (w : ℕ) (ends : List ℕ) → length (consume regs i w ends) ≡ length ends
   consume_length w ends = go (is_gen w)
     where
-      go : (b : Bool) → length (cond b (ended_at (get_or regs w Unset) i ends) ends) ≡ length ends
-      go true = ended_length (get_or regs w Unset) ends
+      go : (b : Bool) → length (cond b (ended_at (get_or regs w None) i ends) ends) ≡ length ends
+      go true = ended_length (get_or regs w None) ends
       go false = refl
 
   pub consumed_length : (ws ends : List ℕ) → length (consumed regs i ws ends) ≡ length ends
@@ -172,19 +170,19 @@ module _ (regs : List Current) (i : ℕ) where
   consumed_length (w ∷ ws) ends = consumed_length ws (consume regs i w ends) ∙ consume_length w ends
 
   -- a static's end is i, or what it was, and then no source holds it
-  ended_cases : (k : Current) (ends : List ℕ) (s : ℕ)
+  ended_cases : (k : Option ℕ) (ends : List ℕ) (s : ℕ)
       → (get_or (ended_at k i ends) s 0 ≡ i) ⊎ (get_or (ended_at k i ends) s 0 ≡ get_or ends s 0)
-  ended_cases (Static t) ends s =
+  ended_cases (Some t) ends s =
       ⊎_elim (λ (a : (s ≡ t) × (get_or (set ends t i) s 0 ≡ i)). inl a.1) (λ (a : get_or (set ends t i) s 0 ≡ get_or ends s 0). inr a)
       (set_cases ends t i 0 s)
-  ended_cases Unset ends s = inr refl
+  ended_cases None ends s = inr refl
 
   consume_cases : (w : ℕ) (ends : List ℕ) (s : ℕ)
       → (get_or (consume regs i w ends) s 0 ≡ i) ⊎ (get_or (consume regs i w ends) s 0 ≡ get_or ends s 0)
   consume_cases w ends s = go (is_gen w)
     where
-      go : (b : Bool) → (get_or (cond b (ended_at (get_or regs w Unset) i ends) ends) s 0 ≡ i) ⊎ (get_or (cond b (ended_at (get_or regs w Unset) i ends) ends) s 0 ≡ get_or ends s 0)
-      go true = ended_cases (get_or regs w Unset) ends s
+      go : (b : Bool) → (get_or (cond b (ended_at (get_or regs w None) i ends) ends) s 0 ≡ i) ⊎ (get_or (cond b (ended_at (get_or regs w None) i ends) ends) s 0 ≡ get_or ends s 0)
+      go true = ended_cases (get_or regs w None) ends s
       go false = inr refl
 
   pub consumed_cases : (ws ends : List ℕ) (s : ℕ)
@@ -199,10 +197,10 @@ module _ (regs : List Current) (i : ℕ) where
       (consumed_cases ws (consume regs i w ends) s)
 
   -- a source that holds s moves its end to i
-  consume_hit : (w : ℕ) (ends : List ℕ) (s : ℕ) → is_gen w ≡ true → get_or regs w Unset ≡ Static s → s < length ends → get_or (consume regs i w ends) s 0 ≡ i
+  consume_hit : (w : ℕ) (ends : List ℕ) (s : ℕ) → is_gen w ≡ true → get_or regs w None ≡ Some s → s < length ends → get_or (consume regs i w ends) s 0 ≡ i
   consume_hit w ends s g e l = rw (g, e) (get_or-set_same ends s i 0 l)
 
-  pub consumed_hit : (ws ends : List ℕ) (w s : ℕ) → In w ws → is_gen w ≡ true → get_or regs w Unset ≡ Static s → s < length ends
+  pub consumed_hit : (ws ends : List ℕ) (w s : ℕ) → In w ws → is_gen w ≡ true → get_or regs w None ≡ Some s → s < length ends
       → get_or (consumed regs i ws ends) s 0 ≡ i
   unfolding consumed
   consumed_hit [] ends w s m g e l = absurd m
@@ -215,17 +213,17 @@ module _ (regs : List Current) (i : ℕ) where
       (λ (q : In w ws). consumed_hit ws (consume regs i v ends) w s q g e (rw (consume_length v ends) l)) m
 
   -- a static that no source holds keeps its end
-  pub consumed_miss : (ws ends : List ℕ) (s : ℕ) → ((w : ℕ) → In w ws → is_gen w ≡ true → get_or regs w Unset ≡ Static s → ⊥)
+  pub consumed_miss : (ws ends : List ℕ) (s : ℕ) → ((w : ℕ) → In w ws → is_gen w ≡ true → get_or regs w None ≡ Some s → ⊥)
       → get_or (consumed regs i ws ends) s 0 ≡ get_or ends s 0
   unfolding consumed
   consumed_miss [] ends s h = refl
   consumed_miss (w ∷ ws) ends s h =
-      consumed_miss ws (consume regs i w ends) s (λ v m. h v (inr m)) ∙ go (is_gen w) refl (get_or regs w Unset) refl
+      consumed_miss ws (consume regs i w ends) s (λ v m. h v (inr m)) ∙ go (is_gen w) refl (get_or regs w None) refl
     where
-      go : (b : Bool) → is_gen w ≡ b → (k : Current) → get_or regs w Unset ≡ k → get_or (cond b (ended_at k i ends) ends) s 0 ≡ get_or ends s 0
+      go : (b : Bool) → is_gen w ≡ b → (k : Option ℕ) → get_or regs w None ≡ k → get_or (cond b (ended_at k i ends) ends) s 0 ≡ get_or ends s 0
       go false g k e = refl
-      go true g Unset e = refl
-      go true g (Static t) e = get_or-set_other ends t s i 0 (λ (q : s ≡ t). h w (inl refl) g (e ∙ ap Static (sym q)))
+      go true g None e = refl
+      go true g (Some t) e = get_or-set_other ends t s i 0 (λ (q : s ≡ t). h w (inl refl) g (e ∙ ap Some (sym q)))
 
 pub ends_length : (list : List ℕ) (i : ℕ) → length (ends_to list i) ≡ statics_to list i
 unfolding ends_to statics_to
@@ -287,7 +285,7 @@ module _ (list : List ℕ) (i : ℕ) where
       (ends_moved s h)
 
   -- record i reads s: its end is i then
-  ends_read : (w s : ℕ) → In w (sources (record_at list i)) → is_gen w ≡ true → get_or (regs_to list i) w Unset ≡ Static s → get_or (ends_to list (suc i)) s 0 ≡ i
+  ends_read : (w s : ℕ) → In w (sources (record_at list i)) → is_gen w ≡ true → get_or (regs_to list i) w None ≡ Some s → get_or (ends_to list (suc i)) s 0 ≡ i
   unfolding after
   ends_read w s m g e =
       let h = (names_to list i).below w s e in
@@ -295,7 +293,7 @@ module _ (list : List ℕ) (i : ℕ) where
 
   -- record i does not read s
   abbrev pub Unread : ℕ → Type 0
-  Unread s = (w : ℕ) → In w (sources (record_at list i)) → is_gen w ≡ true → get_or (regs_to list i) w Unset ≡ Static s → ⊥
+  Unread s = (w : ℕ) → In w (sources (record_at list i)) → is_gen w ≡ true → get_or (regs_to list i) w None ≡ Some s → ⊥
 
   -- its end stays
   ends_stay : (s : ℕ) → s < statics_to list i → Unread s → get_or (ends_to list (suc i)) s 0 ≡ get_or (ends_to list i) s 0
@@ -322,7 +320,7 @@ ends_mono list (suc k) i s h =
 
 -- a record before the last that reads s: s is needed up to there at least
 pub read_end : (list : List ℕ) (i w s : ℕ) → i < records list → In w (sources (record_at list i)) → is_gen w ≡ true
-    → get_or (regs_to list i) w Unset ≡ Static s → i ≤ get_or (ends_of list) s 0
+    → get_or (regs_to list i) w None ≡ Some s → i ≤ get_or (ends_of list) s 0
 unfolding ends_of
 read_end list i w s l m g e =
     let k = records list - suc i in
@@ -356,19 +354,19 @@ read_last list i s l h e unread =
     (λ (f : suc i ≤ get_or (ends_to list (records list)) s 0). omega (arith, e, f)) later
 
 -- a static that no register holds after record i ended by then
-gone : (list : List ℕ) (k i s : ℕ) → s < statics_to list i → ((r : ℕ) → get_or (regs_to list i) r Unset ≡ Static s → ⊥)
-    → ((r : ℕ) → get_or (regs_to list (k + i)) r Unset ≡ Static s → ⊥) × (get_or (ends_to list (k + i)) s 0 ≡ get_or (ends_to list i) s 0)
+gone : (list : List ℕ) (k i s : ℕ) → s < statics_to list i → ((r : ℕ) → get_or (regs_to list i) r None ≡ Some s → ⊥)
+    → ((r : ℕ) → get_or (regs_to list (k + i)) r None ≡ Some s → ⊥) × (get_or (ends_to list (k + i)) s 0 ≡ get_or (ends_to list i) s 0)
 gone list zero i s h g = rw native.Mathlib.Nat.zero-add (g, refl)
 gone list (suc k) i s h g =
     let up = gone list k i s h g in
     let l : s < statics_to list (k + i) = omega (arith, statics_mono list k i) in
     rw native.Mathlib.Nat.suc-add (
-      λ (r : ℕ) (e : get_or (regs_to list (suc (k + i))) r Unset ≡ Static s). up.0 r (regs_old list (k + i) r s l e),
+      λ (r : ℕ) (e : get_or (regs_to list (suc (k + i))) r None ≡ Some s). up.0 r (regs_old list (k + i) r s l e),
       ends_stay list (k + i) s l (λ w m g. up.0 w) ∙ up.1,
     )
 
 pub gone_end : (list : List ℕ) (i s : ℕ) → i < records list → s < statics_to list (suc i)
-    → ((r : ℕ) → get_or (regs_to list (suc i)) r Unset ≡ Static s → ⊥) → get_or (ends_of list) s 0 ≤ i
+    → ((r : ℕ) → get_or (regs_to list (suc i)) r None ≡ Some s → ⊥) → get_or (ends_of list) s 0 ≤ i
 unfolding ends_of
 gone_end list i s l h g =
     let k = records list - suc i in

@@ -1,5 +1,6 @@
 -- A colour becomes free at the record that equals its life, and there it is the colour of a source.
 -- A colour that is needed up to record i, and not beyond, has an owner: a register whose static ends at i, so that i reads it.
+use Rattle.std.specs.Prelude.{Option, Some, None}
 use Prim.Native.Nat.{ℕ, ◌-◌, ◌≤◌, ◌<◌}
 use mathlib.Core.Bool.{Bool, true, false}
 use mathlib.Core.List.{List, [], ◌∷◌, map}
@@ -8,8 +9,6 @@ use mathlib.Core.Path.{◌≡◌, refl, ap, ◌∙◌}
 use native.Mathlib.Omega.{arith}
 use lib.ListN.{get_or}
 use Rattle.mir.specs.declared.config.Settings.{Settings}
-use Rattle.mir.specs.declared.rename.Current.{Current}
-use Rattle.mir.specs.declared.rename.Current.TheVariants.{Static, Unset}
 use Rattle.mir.specs.Records.{records, record_at, is_gen}
 use Rattle.mir.specs.Renaming.{regs_to}
 use Rattle.mir.specs.Shapes.{sources}
@@ -28,24 +27,24 @@ in_map f (v ∷ vs) w (inl e) = inl (ap f e)
 in_map f (v ∷ vs) w (inr m) = inr (in_map f vs w m)
 
 -- a word that is a Gen register which holds static s
-abbrev Reads : List Current → ℕ → ℕ → Type 0
-Reads regs s w = (is_gen w ≡ true) × (get_or regs w Unset ≡ Static s)
+abbrev Reads : List (Option ℕ) → ℕ → ℕ → Type 0
+Reads regs s w = (is_gen w ≡ true) × (get_or regs w None ≡ Some s)
 
-reads_or : (regs : List Current) (s w : ℕ) → Reads regs s w ⊎ (Reads regs s w → ⊥)
-reads_or regs s w = go (is_gen w) refl (get_or regs w Unset) refl
+reads_or : (regs : List (Option ℕ)) (s w : ℕ) → Reads regs s w ⊎ (Reads regs s w → ⊥)
+reads_or regs s w = go (is_gen w) refl (get_or regs w None) refl
   where
-    go : (b : Bool) → is_gen w ≡ b → (k : Current) → get_or regs w Unset ≡ k → Reads regs s w ⊎ (Reads regs s w → ⊥)
+    go : (b : Bool) → is_gen w ≡ b → (k : Option ℕ) → get_or regs w None ≡ k → Reads regs s w ⊎ (Reads regs s w → ⊥)
     go false g k e = inr (λ h. let q = h.0 in clash (cc))
-    go true g Unset e = inr (λ h. let q = h.1 in clash (cc))
-    go true g (Static t) e =
-        ⊎_elim (λ (q : t ≡ s). inl (g, e ∙ ap Static q))
+    go true g None e = inr (λ h. let q = h.1 in clash (cc))
+    go true g (Some t) e =
+        ⊎_elim (λ (q : t ≡ s). inl (g, e ∙ ap Some q))
         (λ (q : t ≡ s → ⊥).
         inr (λ h.
         let p = h.1 in
         let z : t ≡ s = cc in
         q z)) (same_or t s)
 
-some_read : (regs : List Current) (s : ℕ) (ws : List ℕ) → ((w : ℕ) × In w ws × Reads regs s w) ⊎ ((w : ℕ) → In w ws → Reads regs s w → ⊥)
+some_read : (regs : List (Option ℕ)) (s : ℕ) (ws : List ℕ) → ((w : ℕ) × In w ws × Reads regs s w) ⊎ ((w : ℕ) → In w ws → Reads regs s w → ⊥)
 some_read regs s [] = inr (λ w m. absurd m)
 some_read regs s (v ∷ vs) =
     ⊎_elim (λ (h : Reads regs s v). inl (v, inl refl, h))

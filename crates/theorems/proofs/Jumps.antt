@@ -2,6 +2,7 @@
 -- and ended equal. The reduced run makes the step too if the record is kept, and waits if it is dropped.
 -- A record of a straight kind has its law (`step`). To a Label control may come from anywhere, so there only what everybody looks at is
 -- the same; a branch leaves that as it is, and past a BranchIf nothing that was written before it is still to be read.
+use Rattle.std.specs.Prelude.{Some}
 use Prim.Native.Nat.{ℕ, suc, ◌≤◌, ◌<◌}
 use mathlib.Core.Bool.{Bool, true, false, cond, ◌||◌}
 use mathlib.Core.List.{List}
@@ -11,7 +12,6 @@ use native.Mathlib.Omega.{arith}
 use lib.Dec.{eqb}
 use borrow.Author.Tests.{eqb-true}
 use Rattle.mir.specs.declared.config.Settings.{Settings}
-use Rattle.mir.specs.declared.rename.Current.TheVariants.{Static}
 use Rattle.mir.specs.Branches.{label_at, is_branch, label_of}
 use Rattle.mir.specs.Questions.{has_label}
 use Rattle.mir.specs.Records.{records, record_at, word_at}
@@ -163,7 +163,7 @@ module _ (s : Settings) (list table : List ℕ) (passes : ListPasses s list tabl
       condition = source_same here g w1 (rw is (inl refl))
 
       -- nothing that a register holds is still to be read
-      unread : (r t : ℕ) → static_in (regs_to list (suc i)) r ≡ Static t → suc i ≤ number_in (ends_of list) t → ⊥
+      unread : (r t : ℕ) → static_in (regs_to list (suc i)) r ≡ Some t → suc i ≤ number_in (ends_of list) t → ⊥
       unfolding regs_to renamed dests shape_of produced
       unread r t h l = omega (arith, stale_end s list table passes i t inside (rw is) ((names_to list i).below r t (rw is at h)))
 

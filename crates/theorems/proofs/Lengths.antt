@@ -1,5 +1,7 @@
 -- A coloured record is eight words, and the reduced list is made of whole records.
 -- The destinations and the sources keep their number.
+use Rattle.passes.specs.declared.symbol.Loc.{Loc}
+use Rattle.std.specs.Prelude.{Option}
 use Prim.Native.Nat.{ℕ, zero, suc, ◌+◌, ◌*◌, ◌≤◌, ◌<◌}
 use mathlib.Core.Bool.{Bool, true, false, cond}
 use mathlib.Core.List.{List, [], ◌∷◌, ◌++◌}
@@ -13,17 +15,16 @@ use Rattle.mir.specs.Shapes.{shape_for, dests, sources}
 use Rattle.mir.proofs.Shapes.{regs_in_record}
 use Rattle.passes.specs.declared.alloc.Outcome.{Outcome}
 use Rattle.passes.specs.declared.alloc.Outcome.TheVariants.{Kept, Nop, Load, Move, Save}
-use Rattle.passes.specs.declared.alloc.Held.{Held}
 use Rattle.passes.specs.Color.{Setup, Coloring, wanted, source_word, after_dest, words_for, sources_at, dests_at, colored, color_to}
 use Rattle.passes.specs.Contract.{is_kept, outcome_at, out_at, reduced_to, outcome_number, count_to}
 use Rattle.theorems.proofs.Rows.{record_length}
 
-words_length : (n i : ℕ) (E : List ℕ) (ds : List (ℕ × Held)) (st : Coloring) → length (words_for n i E ds st) ≡ length ds
+words_length : (n i : ℕ) (E : List ℕ) (ds : List (ℕ × Option Loc)) (st : Coloring) → length (words_for n i E ds st) ≡ length ds
 unfolding words_for
 words_length n i E [] st = refl
 words_length n i E (d ∷ ds) st = ap suc (words_length n i E ds (after_dest n i E d.0 d.1 st))
 
-wanted_length : (ws : List ℕ) (hx hy : Held) → length (wanted ws hx hy) ≡ length ws
+wanted_length : (ws : List ℕ) (hx hy : Option Loc) → length (wanted ws hx hy) ≡ length ws
 wanted_length [] hx hy = refl
 wanted_length (x ∷ ws) hx hy = ap suc (length-map ws (λ (y : ℕ). (y, hy)))
 

@@ -1,6 +1,8 @@
 -- `pool_never_empty`: for every list that passes, of any kinds, each choice that section 3 makes, but for a found one, has
 -- a colour in its pool.
 -- By induction on the records, with `walk` for the destinations of each; a reset only lowers lives.
+use Rattle.passes.specs.declared.symbol.Loc.{Loc}
+use Rattle.std.specs.Prelude.{Option, Some, None}
 use Prim.Native.Nat.{ℕ, zero, suc, ◌+◌, ◌-◌, ◌≤◌, ◌<◌}
 use mathlib.Core.Bool.{Bool, true, false, cond, ◌||◌}
 use mathlib.Core.List.{List, [], ◌∷◌, map}
@@ -11,11 +13,9 @@ use lib.Dec.{eqb}
 use lib.ListN.{length, get_or}
 use borrow.Author.Tests.{eqb-true}
 use Rattle.mir.specs.declared.config.Settings.{Settings}
-use Rattle.mir.specs.declared.rename.Current.{Current}
-use Rattle.mir.specs.declared.rename.Current.TheVariants.{Static, Unset}
 use Rattle.mir.specs.declared.shape.Action.{Action}
 use Rattle.mir.specs.declared.shape.Action.TheVariants as action
-use Rattle.mir.specs.Folds.{all}
+use Rattle.std.specs.List.{list_all}
 use Rattle.mir.specs.Questions.{named, is_static, sources_named, gen_fits}
 use Rattle.mir.specs.Records.{records, record_at, word_at, is_gen, max_regs}
 use Rattle.mir.specs.Renaming.{fresh, gens, produced, renamed, statics_to, regs_to}
@@ -24,7 +24,6 @@ use Rattle.mir.proofs.Clash.{clash}
 use Rattle.mir.proofs.Passing.{ListPasses, list_passes}
 use Rattle.mir.proofs.Renaming.{gens_fit_both, regs_length}
 use Rattle.passes.specs.declared.alloc.Alloc.{Alloc}
-use Rattle.passes.specs.declared.alloc.Held.{Held}
 use Rattle.passes.specs.Color.{Setup, setup, Coloring, colour_at, wanted, source_word, update_allocs, loc_of, HavePools, after_dests}
 use Rattle.passes.specs.Color.{sources_at, dests_at, color_step, color_to}
 use Rattle.passes.specs.Create.{ends_of}
@@ -35,12 +34,12 @@ use Rattle.theorems.proofs.Pool.{Owner, Owned, Below, words, Before, After, walk
 use Rattle.theorems.proofs.Locations.{update_life, update_length, blank_life}
 
 -- the words of the destinations, with or without what they are wanted with
-same_words : (ws : List ℕ) (h : Held) → words (map (λ (y : ℕ). (y, h)) ws) ≡ ws
+same_words : (ws : List ℕ) (h : Option Loc) → words (map (λ (y : ℕ). (y, h)) ws) ≡ ws
 unfolding words
 same_words [] h = refl
 same_words (w ∷ ws) h = ap (λ (l : List ℕ). w ∷ l) (same_words ws h)
 
-pub wanted_words : (ws : List ℕ) (hx hy : Held) → words (wanted ws hx hy) ≡ ws
+pub wanted_words : (ws : List ℕ) (hx hy : Option Loc) → words (wanted ws hx hy) ≡ ws
 unfolding words
 wanted_words [] hx hy = refl
 wanted_words (x ∷ ws) hx hy = ap (λ (l : List ℕ). x ∷ l) (same_words ws hy)
@@ -59,7 +58,7 @@ forgets_clear rec h = go (eqb (word_at rec 0) call) refl (eqb (word_at rec 0) la
     go false e false f q = cc
 
 -- the registers once the destinations of record i are written; and after the record, by whether it forgets
-abbrev pub written : List ℕ → ℕ → List Current
+abbrev pub written : List ℕ → ℕ → List (Option ℕ)
 written list i = produced (dests (record_at list i)) (statics_to list i) (regs_to list i)
 
 module _ (list : List ℕ) (i : ℕ) where
@@ -72,11 +71,11 @@ module _ (list : List ℕ) (i : ℕ) where
       go false e = refl
 
   -- who holds a static after the record held it once the destinations were written
-  regs_after : (r s : ℕ) → get_or (regs_to list (suc i)) r Unset ≡ Static s → get_or (written list i) r Unset ≡ Static s
+  regs_after : (r s : ℕ) → get_or (regs_to list (suc i)) r None ≡ Some s → get_or (written list i) r None ≡ Some s
   unfolding regs_to renamed
   regs_after r s e = go (forgets (record_at list i)) e
     where
-      go : (b : Bool) → get_or (cond b fresh (written list i)) r Unset ≡ Static s → get_or (written list i) r Unset ≡ Static s
+      go : (b : Bool) → get_or (cond b fresh (written list i)) r None ≡ Some s → get_or (written list i) r None ≡ Some s
       go true f = absurd (not_fresh r s f)
       go false f = f
 
@@ -100,11 +99,11 @@ module _ (s : Settings) (list table : List ℕ) (i : ℕ) where
 
 module _ (s : Settings) (list table : List ℕ) (passes : ListPasses s list table) (i : ℕ) (l : i < records list) where
   -- the record's destinations fit, and a static that they leave to nobody has its end behind it
-  dests_fit : all (gen_fits s.count_regs) (dests (record_at list i)) ≡ true
+  dests_fit : list_all (gen_fits s.count_regs) (dests (record_at list i)) ≡ true
   dests_fit = (gens_fit_both s.count_regs (record_at list i) (passes.each i l).shape.gens).0
 
   left_behind : (t : ℕ) → t < statics_to list i + gens (dests (record_at list i))
-      → ((r : ℕ) → get_or (written list i) r Unset ≡ Static t → ⊥) → get_or (ends_of list) t 0 ≤ i
+      → ((r : ℕ) → get_or (written list i) r None ≡ Some t → ⊥) → get_or (ends_of list) t 0 ≤ i
   unfolding statics_to
   left_behind t h g = gone_end list i t l h (λ r e. g r (regs_after list i r t e))
 
@@ -190,18 +189,18 @@ pool_never_empty s list table h i l = (choices_of s list table (list_passes true
 
 -- ---- sources
 
-static_of : (c : Current) → is_static c ≡ true → (t : ℕ) × (c ≡ Static t)
-static_of (Static t) e = (t, refl)
-static_of Unset e = clash (cc)
+static_of : (c : Option ℕ) → is_static c ≡ true → (t : ℕ) × (c ≡ Some t)
+static_of (Some t) e = (t, refl)
+static_of None e = clash (cc)
 
 module _ (s : Settings) (list table : List ℕ) (passes : ListPasses s list table) (i : ℕ) (inside : i < records list) (w : ℕ)
     (source : In w (sources (record_at list i))) (gen : is_gen w ≡ true) where
   -- a Gen source holds a static
-  pub source_static : (t : ℕ) × (get_or (regs_to list i) w Unset ≡ Static t)
+  pub source_static : (t : ℕ) × (get_or (regs_to list i) w None ≡ Some t)
   unfolding sources_named
   source_static =
       let has = all_in (named (regs_to list i)) (sources (record_at list i)) w (passes.each i inside).sources source in
-      static_of (get_or (regs_to list i) w Unset) (rw gen at has)
+      static_of (get_or (regs_to list i) w None) (rw gen at has)
 
   -- and its colour is one of the n
   pub source_below : source_word (regs_to list i) (color_to (setup s list table) i).colours w < s.count_regs

@@ -1,6 +1,7 @@
 -- One record of a list that passes: two runs that agree before it agree after it.
 -- Here are the parts that the kinds share: what a record reads is the same in both runs; a register that it writes has the
 -- new value in both; and a record that writes none leaves every register's static.
+use Rattle.std.specs.Prelude.{Option, Some, None}
 use Prim.Native.Nat.{ℕ, suc, ◌≤◌, ◌<◌}
 use mathlib.Core.Bool.{Bool, true, false, cond}
 use mathlib.Core.List.{List, []}
@@ -10,8 +11,6 @@ use native.Mathlib.Omega.{arith}
 use lib.ListN.{get_or}
 use borrow.Author.Tests.{ltb-false}
 use Rattle.mir.specs.declared.config.Settings.{Settings}
-use Rattle.mir.specs.declared.rename.Current.{Current}
-use Rattle.mir.specs.declared.rename.Current.TheVariants.{Static, Unset}
 use Rattle.mir.specs.declared.shape.Action.TheVariants as action
 use Rattle.mir.specs.Records.{records, record_at, is_gen, fixed_mark}
 use Rattle.mir.specs.Renaming.{produced, statics_to, regs_to}
@@ -20,7 +19,6 @@ use Rattle.mir.proofs.Clash.{clash}
 use Rattle.mir.proofs.Passing.{ListPasses}
 use Rattle.mir.proofs.Renaming.{regs_length}
 use Rattle.passes.specs.declared.alloc.Alloc.{Alloc}
-use Rattle.passes.specs.declared.alloc.Held.{Held}
 use Rattle.passes.specs.declared.symbol.Loc.{Loc}
 use Rattle.passes.specs.Color.{Setup, setup, Coloring, loc, loc_of, blank, colour_of, source_word}
 use Rattle.passes.specs.Color.{update_allocs, is_member, words_for, found_at, after_dests, sources_at, dests_at, color_step, color_to}
@@ -60,7 +58,7 @@ module _ (s : Settings) (list table : List ℕ) where
 
   -- where no colour holds a location, and no register a static that is still to be read, that is enough
   pub from_same : {Value : Type 0} {i : ℕ} {A B : State Value} → A.over ≡ false → B.over ≡ false → Same A B → (color_to (setup s list table) i).allocs ≡ blank
-      → ((r t : ℕ) → static_in (regs_to list i) r ≡ Static t → i ≤ number_in (ends_of list) t → ⊥) → Running i A B
+      → ((r t : ℕ) → static_in (regs_to list i) r ≡ Some t → i ≤ number_in (ends_of list) t → ⊥) → Running i A B
   from_same a b same bare unread =
       record {
         a_runs = a;
@@ -101,14 +99,14 @@ module _ (p : Place) where
   abbrev pub rec : List ℕ
   rec = record_at p.list p.i
 
-  abbrev pub regs : List Current
+  abbrev pub regs : List (Option ℕ)
   regs = regs_to p.list p.i
 
   -- a source in colours, the destinations with what they are wanted with, and the destinations in colours
   abbrev pub src : ℕ → ℕ
   src w = source_word regs state.colours w
 
-  abbrev pub wants : List (ℕ × Held)
+  abbrev pub wants : List (ℕ × Option Loc)
   wants = dests_at made p.i state
 
   abbrev pub dsts : List ℕ
@@ -124,7 +122,7 @@ module _ (p : Place) where
   After = Running p.s p.list p.table (suc p.i)
 
   -- after the record, by what it makes of the registers' statics, the colours given and the colours' state
-  pub after : {Value : Type 0} {rs : List Current} {cs : List ℕ} {al : List Alloc} {A B : State Value} → regs_to p.list (suc p.i) ≡ rs → next.colours ≡ cs → next.allocs ≡ al
+  pub after : {Value : Type 0} {rs : List (Option ℕ)} {cs : List ℕ} {al : List Alloc} {A B : State Value} → regs_to p.list (suc p.i) ≡ rs → next.colours ≡ cs → next.allocs ≡ al
       → A.over ≡ false → B.over ≡ false → SimIn count (ends_of p.list) Looked (suc p.i) rs cs al A B → Live count (suc p.i) (ends_of p.list) rs cs al → After A B
   after er ec ea a b sim live = record { a_runs = a; b_runs = b; sim = rw (er, ec, ea) sim; live = rw (er, ec, ea) live }
 
@@ -135,7 +133,7 @@ module _ (p : Place) {Value : Type 0} {A B : State Value} (g : Before p A B) whe
   pub source_same : (w : ℕ) → In w (sources (rec p)) → A.reg w ≡ B.reg (src p w)
   source_same w m = go (is_gen w) refl
     where
-      go : (b : Bool) → is_gen w ≡ b → A.reg w ≡ B.reg (cond b (colour_of (get_or (regs p) w Unset) (state p).colours) w)
+      go : (b : Bool) → is_gen w ≡ b → A.reg w ≡ B.reg (cond b (colour_of (get_or (regs p) w None) (state p).colours) w)
       go true e =
           let t = source_static p.s p.list p.table p.passes p.i p.inside w m e in
           rw t.1 (g.sim.regs w t.0 t.1 (read_end p.list p.i w t.0 p.inside m e t.1))
@@ -224,5 +222,5 @@ module _ (p : Place) (none : dests (rec p) ≡ []) where
 
   -- and resets them: no colour holds a location, and no register a static that is still to be read
   pub reset_after : {Value : Type 0} {A B : State Value} → (shape_for (rec p)).action ≡ action.Clear → A.over ≡ false → B.over ≡ false → Same p.s p.list p.table A B
-      → ((r t : ℕ) → static_in (regs_to p.list (suc p.i)) r ≡ Static t → suc p.i ≤ number_in (ends_of p.list) t → ⊥) → After p A B
+      → ((r t : ℕ) → static_in (regs_to p.list (suc p.i)) r ≡ Some t → suc p.i ≤ number_in (ends_of p.list) t → ⊥) → After p A B
   reset_after clears a b same unread = from_same p.s p.list p.table a b same (updated_allocs ∙ rw clears) unread

@@ -1,5 +1,6 @@
 -- What question 15 is for: a static that was written before a BranchIf is read no more past it, so that it ends there at the latest.
 -- The statics written before a BranchIf only grow in number; each source's is none of them.
+use Rattle.std.specs.Prelude.{Some, None}
 use Prim.Native.Nat.{ℕ, zero, suc, ◌+◌, ◌-◌, ◌≤◌, ◌<◌}
 use mathlib.Core.Bool.{Bool, true, false, cond}
 use mathlib.Core.List.{List}
@@ -9,7 +10,6 @@ use lib.Dec.{eqb}
 use lib.ListN.{get_or}
 use borrow.Author.Tests.{leb-true}
 use Rattle.mir.specs.declared.config.Settings.{Settings}
-use Rattle.mir.specs.declared.rename.Current.TheVariants.{Static, Unset}
 use Rattle.mir.specs.Branches.{past_to}
 use Rattle.mir.specs.Questions.{since, sources_since}
 use Rattle.mir.specs.Records.{records, record_at, word_at, is_gen}
@@ -44,7 +44,7 @@ module _ (list : List ℕ) where
 module _ (s : Settings) (list table : List ℕ) (passes : ListPasses s list table) where
   -- a static that a source holds is none of those
   source_since : (i : ℕ) → i < records list → (w t : ℕ) → In w (sources (record_at list i)) → is_gen w ≡ true
-      → get_or (regs_to list i) w Unset ≡ Static t → past_to list i ≤ t
+      → get_or (regs_to list i) w None ≡ Some t → past_to list i ≤ t
   unfolding sources_since
   source_since i l w t m g e =
       let h = all_in (since (past_to list i) (regs_to list i)) (sources (record_at list i)) w (passes.each i l).since m in

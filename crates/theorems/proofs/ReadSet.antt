@@ -1,5 +1,6 @@
 -- The read set: what joins it is in it from then on, it has no repeats, and a record adds to it what it reads.
 -- By induction on what joins, and then on the records.
+use Rattle.std.specs.Prelude.{Option}
 use Prim.Native.Nat.{ℕ, zero, suc, ◌+◌, ◌-◌, ◌≤◌, ◌<◌}
 use mathlib.Core.Bool.{Bool, true, false, cond, ◌||◌, not, or-true, or-false, or_assoc}
 use mathlib.Core.List.{List, [], ◌∷◌, ◌++◌}
@@ -11,7 +12,6 @@ use lib.Dec.{eqb}
 use lib.ListN.{length, get_or, length-append}
 use Rattle.mir.specs.Records.{records, record_at, word_at, is_gen}
 use Rattle.mir.specs.Shapes.{shape_for}
-use Rattle.passes.specs.declared.alloc.Held.{Held}
 use Rattle.passes.specs.declared.symbol.Loc.{Loc}
 use Rattle.passes.specs.Color.{Setup, Coloring, loc_of, same_loc, pairs_from, reads, is_member, join, joined, assign, choose, chosen}
 use Rattle.passes.specs.Color.{after_dest, after_dests, dests_at, found_at, color_step, color_to}
@@ -151,7 +151,7 @@ joined_more ms (l ∷ ls) = omega (arith, joined_more (join ms l) ls, join_more 
 -- ---- record by record
 
 module _ (n i : ℕ) (E : List ℕ) where
-  dest_members : (w : ℕ) (h : Held) (st : Coloring) → (after_dest n i E w h st).members ≡ st.members
+  dest_members : (w : ℕ) (h : Option Loc) (st : Coloring) → (after_dest n i E w h st).members ≡ st.members
   unfolding after_dest
   dest_members w h st = go (is_gen w)
     where
@@ -168,7 +168,7 @@ module _ (n i : ℕ) (E : List ℕ) where
       go true = refl
       go false = refl
 
-  pub dests_members : (ds : List (ℕ × Held)) (st : Coloring) → (after_dests n i E ds st).members ≡ st.members
+  pub dests_members : (ds : List (ℕ × Option Loc)) (st : Coloring) → (after_dests n i E ds st).members ≡ st.members
   unfolding after_dests
   dests_members [] st = refl
   dests_members (d ∷ ds) st = dests_members ds (after_dest n i E d.0 d.1 st) ∙ dest_members d.0 d.1 st

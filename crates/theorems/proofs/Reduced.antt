@@ -1,6 +1,8 @@
 -- The reduced list again passes questions 5, 6 and 7: every coloured word is one of the colours or a named register, and
 -- everything else of a record stays.
 -- A coloured record is the record with its register words replaced; where they stand a field may be any register.
+use Rattle.passes.specs.declared.symbol.Loc.{Loc}
+use Rattle.std.specs.Prelude.{Option}
 use Prim.Native.Nat.{ℕ, zero, suc, ◌+◌, ◌-◌, ◌*◌, ◌≤◌, ◌<◌}
 use mathlib.Core.Bool.{Bool, true, false, cond, ◌&&◌}
 use mathlib.Core.List.{List, [], ◌∷◌, ◌++◌, map, append_assoc, append-nil}
@@ -14,7 +16,8 @@ use borrow.Author.Tests.{le-leb, leb-true, eqb-true}
 use lib.Seq.{length-take-le, take_at, drop_at, get_or-take, get_or-drop, get_or-append-add}
 use Rattle.mir.specs.declared.config.Settings.{Settings}
 use Rattle.mir.specs.declared.shape.Shape.{Shape}
-use Rattle.mir.specs.Folds.{all, all_below}
+use Rattle.std.specs.List.{list_all}
+use Rattle.mir.specs.Folds.{all_below}
 use Rattle.mir.specs.Questions.{word_fits, words_fit, pairs_fit, fields_fit, gen_fits, known_kind, gens_fit, shape_no}
 use Rattle.mir.specs.Renaming.{regs_to}
 use Rattle.mir.specs.Records.{records, record_at, word_at, is_gen, max_regs, fixed_mark}
@@ -27,7 +30,6 @@ use Rattle.passes.specs.declared.alloc.Alloc.{Alloc}
 use Rattle.passes.specs.declared.alloc.Choice.{Choice}
 use Rattle.passes.specs.declared.alloc.Choice.TheVariants.{Found, Free, Empty}
 use Rattle.passes.specs.declared.alloc.Outcome.TheVariants.{Kept}
-use Rattle.passes.specs.declared.alloc.Held.{Held}
 use Rattle.passes.specs.Color.{Setup, setup, Coloring, choose, chosen, after_dest, word_for, words_for, source_word, sources_at, dests_at}
 use Rattle.passes.specs.Color.{colored, color_to}
 use Rattle.passes.specs.Contract.{out_at, outcome_at, is_kept, reduced_to, reduced, count_to}
@@ -74,9 +76,9 @@ module _ (l ws : List ℕ) (r a : ℕ) (inside : r + a ≤ length l) (len : leng
 
 -- no register word is above 259
 Limited : List ℕ → Type 0
-Limited ws = all (λ w. leb w reg) ws ≡ true
+Limited ws = list_all (λ w. leb w reg) ws ≡ true
 
-chosen_limited : (n i : ℕ) (h : Held) (allocs : List Alloc) → n ≤ max_regs → leb (chosen (choose n i h allocs)) reg ≡ true
+chosen_limited : (n i : ℕ) (h : Option Loc) (allocs : List Alloc) → n ≤ max_regs → leb (chosen (choose n i h allocs)) reg ≡ true
 chosen_limited n i h allocs few = go (choose n i h allocs) refl
   where
     go : (k : Choice) → choose n i h allocs ≡ k → leb (chosen k) reg ≡ true
@@ -84,27 +86,25 @@ chosen_limited n i h allocs few = go (choose n i h allocs) refl
     go (Free c) e = le-leb c reg (omega (arith, (choose_free n i allocs h c e).0))
     go Empty e = refl
 
-words_limited : (n i : ℕ) (E : List ℕ) → n ≤ max_regs → (ds : List (ℕ × Held)) (st : Coloring) → Limited (words ds) → Limited (words_for n i E ds st)
-unfolding Limited all words words_for word_for
+words_limited : (n i : ℕ) (E : List ℕ) → n ≤ max_regs → (ds : List (ℕ × Option Loc)) (st : Coloring) → Limited (words ds) → Limited (words_for n i E ds st)
+unfolding Limited words words_for word_for
 words_limited n i E few [] st h = refl
 words_limited n i E few (d ∷ ds) st h =
-    let b = and_both (leb d.0 reg) (all (λ w. leb w reg) (words ds)) h in
+    let b = and_both (leb d.0 reg) (list_all (λ w. leb w reg) (words ds)) h in
     rw (words_limited n i E few ds (after_dest n i E d.0 d.1 st) b.1) (go (is_gen d.0) b.0)
   where
     go : (b : Bool) → leb d.0 reg ≡ true → (leb (cond b (chosen (choose n i d.1 st.allocs)) d.0) reg && true) ≡ true
     go true q = rw (chosen_limited n i d.1 st.allocs few)
     go false q = rw q
 
-all_map : (p : ℕ → Bool) (f : ℕ → ℕ) (ws : List ℕ) → ((w : ℕ) → In w ws → p (f w) ≡ true) → all p (map f ws) ≡ true
-unfolding all
+all_map : (p : ℕ → Bool) (f : ℕ → ℕ) (ws : List ℕ) → ((w : ℕ) → In w ws → p (f w) ≡ true) → list_all p (map f ws) ≡ true
 all_map p f [] h = refl
 all_map p f (w ∷ ws) h = rw (h w (inl refl), all_map p f ws (λ v m. h v (inr m)))
 
-all_at_place : (p : ℕ → Bool) (ws : List ℕ) (j : ℕ) → all p ws ≡ true → j < length ws → p (get_or ws j 0) ≡ true
-unfolding all
+all_at_place : (p : ℕ → Bool) (ws : List ℕ) (j : ℕ) → list_all p ws ≡ true → j < length ws → p (get_or ws j 0) ≡ true
 all_at_place p [] j h l = absurd (omega arith)
-all_at_place p (w ∷ ws) zero h l = (and_both (p w) (all p ws) h).0
-all_at_place p (w ∷ ws) (suc j) h l = all_at_place p ws j (and_both (p w) (all p ws) h).1 (omega arith)
+all_at_place p (w ∷ ws) zero h l = (and_both (p w) (list_all p ws) h).0
+all_at_place p (w ∷ ws) (suc j) h l = all_at_place p ws j (and_both (p w) (list_all p ws) h).1 (omega arith)
 
 -- ---- one record
 
@@ -176,7 +176,7 @@ module _ (s : Settings) (list table : List ℕ) (passes : ListPasses s list tabl
   sources_limited = limited_from (shape.regs + shape.dsts) shape.srcs (omega arith) (omega arith)
 
   -- the new words fit: a colour is below the count, and a named register is as it was
-  words_fit_lem : all (gen_fits s.count_regs) (ws ++ ss) ≡ true
+  words_fit_lem : list_all (gen_fits s.count_regs) (ws ++ ss) ≡ true
   words_fit_lem = all_append (gen_fits s.count_regs) ws ss ∙ rw ((choices_of s list table passes i inside).fit, all_map (gen_fits s.count_regs) _ (sources rec) source_fits)
     where
       source_fits : (w : ℕ) → In w (sources rec) → gen_fits s.count_regs (source_word (regs_to list i) st.colours w) ≡ true

@@ -1,6 +1,7 @@
 -- Request 1 moves no colour: whatever joins the read set at each record, the statics' colours and each colour's life and
 -- location come out the same; so they did by document 01's own rule, where x alone decided on a load.
 -- A record's choices look at the colours' state and at nothing else. By induction on the destinations and on the records.
+use Rattle.std.specs.Prelude.{Option}
 use Prim.Native.Nat.{ℕ, zero, suc}
 use mathlib.Core.Bool.{Bool, true, false, ◌&&◌, not}
 use mathlib.Core.List.{List, [], ◌∷◌}
@@ -8,7 +9,6 @@ use mathlib.Core.Path.{◌≡◌, refl}
 use lib.Dec.{eqb}
 use Rattle.mir.specs.Records.{record_at, word_at, is_gen}
 use Rattle.mir.specs.Shapes.{shape_for}
-use Rattle.passes.specs.declared.alloc.Held.{Held}
 use Rattle.passes.specs.declared.symbol.Loc.{Loc}
 use Rattle.passes.specs.Color.{Setup, Coloring, loc_of, pairs_from, reads, joined, is_found, choice_for}
 use Rattle.passes.specs.Color.{after_dest, after_dests, sources_at, dests_at, color_step, color_to}
@@ -20,7 +20,7 @@ pub record Alike (a b : Coloring) : Type 0 where
   pub colours : a.colours ≡ b.colours
 
 module _ (n i : ℕ) (E : List ℕ) where
-  dest_alike : (w : ℕ) (h : Held) {a b : Coloring} → Alike a b → Alike (after_dest n i E w h a) (after_dest n i E w h b)
+  dest_alike : (w : ℕ) (h : Option Loc) {a b : Coloring} → Alike a b → Alike (after_dest n i E w h a) (after_dest n i E w h b)
   unfolding given colour_for
   dest_alike w h {a} {b} s = go (is_gen w) refl
     where
@@ -30,7 +30,7 @@ module _ (n i : ℕ) (E : List ℕ) where
           (record { allocs = rw (s.allocs, s.colours); colours = rw (s.allocs, s.colours) })
       go false q = rw (after_named n i E w h a q, after_named n i E w h b q) s
 
-  dests_alike : (ds : List (ℕ × Held)) {a b : Coloring} → Alike a b → Alike (after_dests n i E ds a) (after_dests n i E ds b)
+  dests_alike : (ds : List (ℕ × Option Loc)) {a b : Coloring} → Alike a b → Alike (after_dests n i E ds a) (after_dests n i E ds b)
   unfolding after_dests
   dests_alike [] s = s
   dests_alike (d ∷ ds) s = dests_alike ds (dest_alike d.0 d.1 s)
@@ -59,7 +59,7 @@ module _ (u : Setup) where
       record { allocs = s.allocs; colours = s.colours }
 
   -- document 01's rule: a load of either kind joins unless x was found
-  abbrev pub x_found : ℕ → List (ℕ × Held) → Coloring → Bool
+  abbrev pub x_found : ℕ → List (ℕ × Option Loc) → Coloring → Bool
   x_found i [] st = false
   x_found i (d ∷ ds) st = is_gen d.0 && is_found (choice_for u.count i d.1 st)
 

@@ -1,6 +1,7 @@
 -- Each straight kind takes two runs that agree before its record to two that agree after it.
 -- Nine kinds compute values, and Mov and both loads copy one: they write registers, which is one law (`writes`). The saves
 -- write cells; Nop does nothing, and End stops both runs.
+use Rattle.std.specs.Prelude.{Option, Some, None}
 use Prim.Native.Nat.{ℕ, zero, suc, ◌+◌, ◌≤◌}
 use mathlib.Core.Bool.{Bool, true, false, cond, ◌&&◌, ◌||◌, not, and-false}
 use mathlib.Core.List.{List, [], ◌∷◌}
@@ -17,8 +18,6 @@ use Rattle.mir.specs.Shapes.{row, shape_of, shape_for, dests, sources}
 use Rattle.mir.proofs.Clash.{clash}
 use Rattle.mir.proofs.Renaming.{and_both}
 use Rattle.passes.specs.declared.alloc.Alloc.{Alloc}
-use Rattle.passes.specs.declared.alloc.Held.{Held}
-use Rattle.passes.specs.declared.alloc.Held.TheVariants.{Nothing, At}
 use Rattle.passes.specs.declared.alloc.Outcome.{Outcome}
 use Rattle.passes.specs.declared.alloc.Outcome.TheVariants as outcome
 use Rattle.passes.specs.declared.symbol.Loc.{Loc}
@@ -172,10 +171,10 @@ module _ {Value : Type 0} (m : Meaning Value) (p : Place) {A B : State Value} (g
 
     -- ---- the loads, by whether the destination is wanted with the cell that it gets
 
-    abbrev at : (q x : ℕ) → Held
-    at q x = At (loc q x)
+    abbrev at : (q x : ℕ) → Option Loc
+    at q x = Some (loc q x)
 
-    its_cell : (q x : ℕ) (l : Loc) → at q x ≡ At l → A.cell q x ≡ A.cell l.space l.index
+    its_cell : (q x : ℕ) (l : Loc) → at q x ≡ Some l → A.cell q x ≡ A.cell l.space l.index
     its_cell q x l h =
         let z : loc q x ≡ l = cc in
         ap (λ (j : Loc). A.cell j.space j.index) z
@@ -204,7 +203,7 @@ module _ {Value : Type 0} (m : Meaning Value) (p : Place) {A B : State Value} (g
     -- the value; a Mov onto itself is dropped, and would change nothing
 
     module _ (e : Is 4) where
-      abbrev held : Held
+      abbrev held : Option Loc
       held = held_by (state p).allocs (src p w2)
 
       abbrev dst : ℕ
@@ -232,14 +231,14 @@ module _ {Value : Type 0} (m : Meaning Value) (p : Place) {A B : State Value} (g
           go false q = rw (mov_out, e, ← moved)
 
       -- a source's colour that holds a location is one of the n, and has the cell's value
-      source_holds : (l : Loc) → held ≡ At l → A.reg w2 ≡ A.cell l.space l.index
+      source_holds : (l : Loc) → held ≡ Some l → A.reg w2 ≡ A.cell l.space l.index
       unfolding sources shape_of
       source_holds l q = go (is_gen (src p w2)) refl
         where
           go : (b : Bool) → is_gen (src p w2) ≡ b → A.reg w2 ≡ A.cell l.space l.index
           go true b = moved ∙ g.sim.held (src p w2) l (source_small p g w2 (rw e (inl refl)) b) (rw b at q)
           go false b =
-              let f : Nothing ≡ At l = rw b at q in
+              let f : None ≡ Some l = rw b at q in
               clash (cc)
 
       mov_step : Steps

@@ -1,6 +1,7 @@
 -- The destinations of a record in both runs: each gets its value, in the list's run in its register and in the reduced run
 -- in the colour that is chosen for it; and where all were found, the reduced run has the values already.
 -- By induction on the destinations, x before y: the runs agree after one as they did before it.
+use Rattle.std.specs.Prelude.{Option, Some, None}
 use Prim.Native.Nat.{ℕ, suc, ◌≤◌, ◌<◌}
 use mathlib.Core.Bool.{Bool, true, false, cond, ◌&&◌}
 use mathlib.Core.List.{List, [], ◌∷◌, map}
@@ -10,16 +11,12 @@ use native.Mathlib.Omega.{arith}
 use lib.Dec.{eqb}
 use lib.ListN.{length, set, length-set}
 use borrow.Author.Tests.{ltb-false}
-use Rattle.mir.specs.declared.rename.Current.{Current}
-use Rattle.mir.specs.declared.rename.Current.TheVariants.{Static}
 use Rattle.mir.specs.Records.{is_gen}
 use Rattle.mir.specs.Renaming.{produced}
 use Rattle.mir.proofs.Clash.{clash}
 use Rattle.mir.proofs.Renaming.{and_both}
 use Rattle.passes.specs.declared.alloc.Choice.{Choice}
 use Rattle.passes.specs.declared.alloc.Choice.TheVariants.{Found, Free, Empty}
-use Rattle.passes.specs.declared.alloc.Held.{Held}
-use Rattle.passes.specs.declared.alloc.Held.TheVariants.{Nothing, At}
 use Rattle.passes.specs.declared.symbol.Loc.{Loc}
 use Rattle.passes.specs.Color.{Coloring, colour_at, choose, chosen, is_found, wanted, after_dest, after_dests, words_for, found_all}
 use Rattle.passes.specs.Machine.{State, write}
@@ -43,18 +40,18 @@ still_over (w ∷ ws) [] st = refl
 still_over (w ∷ ws) (v ∷ vs) st = still_over ws vs (write w v st)
 
 -- there is a value for each destination; one that is wanted with a location gets the cell's
-abbrev pub Valued : {Value : Type 0} → (ℕ → ℕ → Value) → List (ℕ × Held) → List Value → Type 0
+abbrev pub Valued : {Value : Type 0} → (ℕ → ℕ → Value) → List (ℕ × Option Loc) → List Value → Type 0
 Valued cell [] vs = Unit {0}
 Valued cell (d ∷ ds) [] = ⊥
-Valued cell (d ∷ ds) (v ∷ vs) = ((l : Loc) → d.1 ≡ At l → v ≡ cell l.space l.index) × Valued cell ds vs
+Valued cell (d ∷ ds) (v ∷ vs) = ((l : Loc) → d.1 ≡ Some l → v ≡ cell l.space l.index) × Valued cell ds vs
 
 -- those that are wanted with nothing get any values
-pub any_values : {Value : Type 0} (cell : ℕ → ℕ → Value) (ws : List ℕ) (vs : List Value) → length ws ≡ length vs → Valued cell (wanted ws Nothing Nothing) vs
+pub any_values : {Value : Type 0} (cell : ℕ → ℕ → Value) (ws : List ℕ) (vs : List Value) → length ws ≡ length vs → Valued cell (wanted ws None None) vs
 any_values {Value} cell [] vs e = tt
 any_values {Value} cell (w ∷ ws) [] e = clash (cc)
 any_values {Value} cell (w ∷ ws) (v ∷ vs) e = (λ l q. clash (cc), rest ws vs (omega (arith, e)))
   where
-    rest : (ws : List ℕ) (vs : List Value) → length ws ≡ length vs → Valued cell (map (λ y. (y, Nothing)) ws) vs
+    rest : (ws : List ℕ) (vs : List Value) → length ws ≡ length vs → Valued cell (map (λ y. (y, None)) ws) vs
     rest [] vs e = tt
     rest (w ∷ ws) [] e = clash (cc)
     rest (w ∷ ws) (v ∷ vs) e = (λ l q. clash (cc), rest ws vs (omega (arith, e)))
@@ -67,22 +64,22 @@ write_self B w v h =
 
 module _ {Value : Type 0} (n i : ℕ) (E : List ℕ) (Seen : ℕ → ℕ → Type 0) (few : n ≤ 256) where
   -- what agrees before the destinations, before record i (j is i) or after another one (j is suc i); and after them
-  pub record Agrees (j : ℕ) (regs : List Current) (st : Coloring) (A B : State Value) : Type 0 where
+  pub record Agrees (j : ℕ) (regs : List (Option ℕ)) (st : Coloring) (A B : State Value) : Type 0 where
     pub early : j ≤ suc i
     pub short : length regs ≤ 256
     pub live : Live n j E regs st.colours st.allocs
     pub sim : SimIn n E Seen j regs st.colours st.allocs A B
 
-  pub record Wrote (ds : List (ℕ × Held)) (vs : List Value) (m : ℕ) (regs : List Current) (st : Coloring) (A B : State Value) : Type 0 where
+  pub record Wrote (ds : List (ℕ × Option Loc)) (vs : List Value) (m : ℕ) (regs : List (Option ℕ)) (st : Coloring) (A B : State Value) : Type 0 where
     pub live : Live n (suc i) E (produced (words ds) m regs) (after_dests n i E ds st).colours (after_dests n i E ds st).allocs
     pub sim : SimIn n E Seen (suc i) (produced (words ds) m regs) (after_dests n i E ds st).colours (after_dests n i E ds st).allocs (write_all (words ds) vs A) (write_all (words_for n i E ds st) vs B)
     pub same : found_all n i E ds st ≡ true → write_all (words_for n i E ds st) vs B ≡ B
 
   -- one destination, and those after it
-  module _ (w : ℕ) (h : Held) (ds : List (ℕ × Held)) (v : Value) (vs : List Value) (m : ℕ) (regs : List Current) (st : Coloring) {j : ℕ} {A B : State Value}
+  module _ (w : ℕ) (h : Option Loc) (ds : List (ℕ × Option Loc)) (v : Value) (vs : List Value) (m : ℕ) (regs : List (Option ℕ)) (st : Coloring) {j : ℕ} {A B : State Value}
       (b : Before n i E ((w, h) ∷ ds) m regs st) (g : Agrees j regs st A B) where
     -- a Gen one; v is the value of the location that its colour then holds
-    module _ (gen : is_gen w ≡ true) (holds : (l : Loc) → h ≡ At l → v ≡ A.cell l.space l.index) where
+    module _ (gen : is_gen w ≡ true) (holds : (l : Loc) → h ≡ Some l → v ≡ A.cell l.space l.index) where
       -- a colour that is found has the value already
       had : (k : ℕ) → choose n i h st.allocs ≡ Found k → v ≡ B.reg k
       had k q =
@@ -118,7 +115,7 @@ module _ {Value : Type 0} (n i : ℕ) (E : List ℕ) (Seen : ℕ → ℕ → Typ
       names : Names regs (length st.colours)
       names = subst (Names regs) (sym b.next) b.names
 
-      agrees_gen : Agrees (suc i) (set regs w (Static m)) (given n i E (colour_for n i E h st) h st) (write w v A) (write (colour_for n i E h st) v B)
+      agrees_gen : Agrees (suc i) (set regs w (Some m)) (given n i E (colour_for n i E h st) h st) (write w v A) (write (colour_for n i E h st) v B)
       unfolding given
       agrees_gen =
           record {
@@ -128,7 +125,7 @@ module _ {Value : Type 0} (n i : ℕ) (E : List ℕ) (Seen : ℕ → ℕ → Typ
             sim = rw (← b.next) (sim_assign g.early names g.live g.sim gets);
           }
 
-      with_gen : Wrote ds vs (suc m) (set regs w (Static m)) (given n i E (colour_for n i E h st) h st) (write w v A) (write (colour_for n i E h st) v B) → Wrote ((w, h) ∷ ds) (v ∷ vs) m regs st A B
+      with_gen : Wrote ds vs (suc m) (set regs w (Some m)) (given n i E (colour_for n i E h st) h st) (write w v A) (write (colour_for n i E h st) v B) → Wrote ((w, h) ∷ ds) (v ∷ vs) m regs st A B
       unfolding words found_all colour_for
       with_gen up =
           let e = afters_gen n i E w h ds st gen in
@@ -153,7 +150,7 @@ module _ {Value : Type 0} (n i : ℕ) (E : List ℕ) (Seen : ℕ → ℕ → Typ
         }
       where
         -- the registers that hold statics still to be read, and their colours, are Gen
-        small : (r t : ℕ) → static_in regs r ≡ Static t → j ≤ number_in E t → (r < 256) × (number_in st.colours t < n)
+        small : (r t : ℕ) → static_in regs r ≡ Some t → j ≤ number_in E t → (r < 256) × (number_in st.colours t < n)
         small r t e l = (omega (arith, holds_inside regs r t e, g.short), (g.live.of r t e l).below)
 
     with_named : is_gen w ≡ false → Wrote ds vs m regs st (write w v A) (write w v B) → Wrote ((w, h) ∷ ds) (v ∷ vs) m regs st A B
@@ -171,11 +168,11 @@ module _ {Value : Type 0} (n i : ℕ) (E : List ℕ) (Seen : ℕ → ℕ → Typ
             clash (cc)
 
   -- the destinations ds with the values vs, m being the next static
-  abbrev Writing : List (ℕ × Held) → List Value → ℕ → Type 0
+  abbrev Writing : List (ℕ × Option Loc) → List Value → ℕ → Type 0
   Writing ds vs m =
-      (regs : List Current) (st : Coloring) (j : ℕ) (A B : State Value) → Before n i E ds m regs st → Agrees j regs st A B → Valued A.cell ds vs → Wrote ds vs m regs st A B
+      (regs : List (Option ℕ)) (st : Coloring) (j : ℕ) (A B : State Value) → Before n i E ds m regs st → Agrees j regs st A B → Valued A.cell ds vs → Wrote ds vs m regs st A B
 
-  pub write_dests : (ds : List (ℕ × Held)) (vs : List Value) (m : ℕ) → Writing ds vs m
+  pub write_dests : (ds : List (ℕ × Option Loc)) (vs : List Value) (m : ℕ) → Writing ds vs m
   unfolding after_dests words_for words produced found_all
   write_dests [] vs m regs st j A B b g h = record { live = live_later g.early g.live; sim = sim_next g.early g.sim; same = λ q. refl }
   write_dests (d ∷ ds) [] m regs st j A B b g h = absurd h

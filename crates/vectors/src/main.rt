@@ -2,13 +2,16 @@
 // docs/FORMAT.md has the form of its input, which importer/ makes; this program needs no Rust.
 #![tactic(auto)]
 
-ghost use Rattle.std.specs.Prelude.{◌≤◌, ◌≡◌, leb, length, IfOk};
+ghost use Rattle.std.specs.Prelude.{◌≡◌, ◌≢◌, ◌+◌, ◌*◌, ◌/◌, ◌%◌, ◌^◌, IsTrue, ◌≤◌, ◌↔◌, length, IfOk, IfSome, IsSome};
+ghost use Rattle.file.specs.File.{word_in};
 
-use console::{length_to, print_number, print_text, word};
+use console::{length_to, word};
+use rudzaviks::{rudzaviks_optimize, rudzaviks_survey};
 use std::io;
 use std::io::{Read, Write};
 
-// The longest table and list of a stored case, in words.
+// The longest table and list of a stored case, in words. All words stand in fixed memory, since the heap's functions would
+// be assumed besides.
 const TABLE: usize = 1024;
 
 const LIST: usize = 4096;
@@ -27,28 +30,55 @@ const PARTS: usize = 7;
 // What every word of a lent slice is at first.
 const FILL: u32 = 2_779_096_485;
 
-// Puts `w` at `i`, where there is room.
-fn put(out: &mut [u32], i: usize, w: u32)
-    ensures { length out.new ≡ length out.old }
+// Puts the next words, their number first, at the start of `space`, and answers them; none if they had no room there.
+fn words<'a, R: Read>(input: &mut R, space: &'a mut [u32]) -> io::Result<Option<&'a [u32]>>
+    ensures room { IfOk result (λ o. IfSome (R.remaining input.old) (λ bytes. IsSome o ↔ (word_in bytes 0 ≤ length space.entry.now))) }
+    ensures len { IfOk result (λ o. IfSome (R.remaining input.old) (λ bytes. IfSome o (λ w. length w.now ≡ word_in bytes 0))) }
 {
-    if i < out.len() {
-        out[i] = w;
+    let n = word(input)? as usize;
+    for i in 0..n {
+        let next = word(input)?;
+        if let Some(place) = space.get_mut(i) {
+            *place = next;
+        }
+    }
+    Ok(space.get(..n))
+}
+
+// Whether `got` starts with the next words, their number first, and holds FILL after them.
+fn starts(input: &mut impl Read, got: &[u32]) -> io::Result<bool> {
+    let n = word(input)? as usize;
+    let (stored, rest) = got.split_at(n.min(got.len()));
+    let mut same = n <= got.len() && rest.iter().all(|w| *w == FILL);
+    for w in stored {
+        same &= *w == word(input)?;
+    }
+    Ok(same)
+}
+
+// What is asked in a stored case. Of an unknown operation only a refusal can agree.
+#[derive(Clone, Copy)]
+enum Operation {
+    Registers,
+    Place,
+    Optimize,
+    Survey,
+    Unknown,
+}
+
+impl From<u32> for Operation {
+    fn from(code: u32) -> Operation {
+        match code {
+            1 => Operation::Registers,
+            2 => Operation::Place,
+            3 => Operation::Optimize,
+            4 => Operation::Survey,
+            _ => Operation::Unknown,
+        }
     }
 }
 
-// Puts the next `n` words at the start of `out`, and answers whether they had room there.
-fn words(input: &mut impl Read, out: &mut [u32], n: usize) -> io::Result<bool>
-    ensures out_len_unchanged { length out.new ≡ length out.old }
-    ensures value { IfOk result (λ b. b ≡ leb n (length out.old)) }
-{
-    let mut i = 0;
-    while i < n {
-        put(out, i, word(input)?);
-        i += 1;
-    }
-    Ok(n <= out.len())
-}
-
+// The settings as words, which is how C gives them.
 #[derive(Clone, Copy)]
 struct Settings {
     count_regs: u32,
@@ -58,234 +88,208 @@ struct Settings {
     compress: u32,
 }
 
-fn read_settings(input: &mut impl Read) -> io::Result<Settings> {
-    let count_regs = word(input)?;
-    let args = word(input)?;
-    let complex = word(input)?;
-    let arm = word(input)?;
-    let compress = word(input)?;
-    Ok(Settings {
-        count_regs,
-        args,
-        complex,
-        arm,
-        compress,
-    })
-}
-
-// Whether `got` starts with the next words, their number first, and holds FILL after them.
-fn starts(input: &mut impl Read, got: &[u32]) -> io::Result<bool> {
-    let n = word(input)? as usize;
-    let mut same = n <= got.len();
-    let mut i = 0;
-    while i < got.len() {
-        let expected = if i < n { word(input)? } else { FILL };
-        if got[i] != expected {
-            same = false;
-        }
-        i += 1;
+impl Settings {
+    fn read(input: &mut impl Read) -> io::Result<Settings> {
+        Ok(Settings {
+            count_regs: word(input)?,
+            args: word(input)?,
+            complex: word(input)?,
+            arm: word(input)?,
+            compress: word(input)?,
+        })
     }
-    Ok(same)
 }
 
-// Whether every word is what it was at first.
-fn untouched(parts: [u32; 4]) -> bool {
-    parts[0] == FILL && parts[1] == FILL && parts[2] == FILL && parts[3] == FILL
-}
-
-// A stored answer of one part: the low word, and the high one, whose lower 24 bits are a refusal's number.
+// A stored answer. That of one part has it in the low word, and in the upper eight bits of the high one how many registers
+// there are; the other bits of the high one are a refusal's number.
 #[derive(Clone, Copy)]
-struct Part {
+struct Stored {
     low: u32,
     high: u32,
 }
 
-// Whether the parts have the stored one: the mask and how many registers it names (operation 1), or the label's place (2).
-// Operation 1 has lists of at most 32 registers, so that the mask's high word has every bit with `compress`, and else none.
-fn has_part(op: u32, compress: u32, stored: Part, got: u64, parts: [u32; 4]) -> bool {
-    let above = if compress == 0 { 0 } else { 4_294_967_295 };
-    match op {
-        1 => parts[0] == stored.low && parts[1] == above && parts[2] == stored.high / 16_777_216,
-        2 => got == stored.low as u64 && parts[3] == stored.low,
-        _ => false,
+impl Stored {
+    fn read(input: &mut impl Read) -> io::Result<Stored> {
+        Ok(Stored {
+            low: word(input)?,
+            high: word(input)?,
+        })
+    }
+
+    fn answer(self) -> u64
+        ensures { result ≡ self.high * 2 ^ 32 + self.low }
+    {
+        u64::from(self.high) << 32 | u64::from(self.low)
+    }
+
+    fn is_refusal(self) -> bool
+        ensures { IsTrue result ↔ (self.high % 2 ^ 24 ≢ 0) }
+    {
+        self.high % (1 << 24) != 0
+    }
+
+    fn registers(self) -> u32
+        ensures { result ≡ self.high / 2 ^ 24 }
+    {
+        self.high >> 24
     }
 }
 
-// Whether `survey` gives the stored part, or its refusal, which leaves the lent words.
-fn replay_part(
-    op: u32,
-    s: Settings,
-    label: u32,
-    list: &[u32],
-    table: &[u32],
-    stored: Part,
-) -> bool {
-    let mut parts = [FILL; 4];
-    let got = rudzaviks::rudzaviks_survey(list, table, s.count_regs, s.compress, label, &mut parts);
-    if stored.high % 16_777_216 != 0 {
-        let expected = (stored.high as u64) * 4_294_967_296 + (stored.low as u64);
-        return got == expected && untouched(parts);
+// The slices that are lent to `optimize`.
+#[derive(Drop)]
+struct Lent<'a> {
+    out: &'a mut [u32],
+    colours: &'a mut [u32],
+    ends: &'a mut [u32],
+    set: &'a mut [u32],
+    counts: &'a mut [u32],
+}
+
+impl Lent<'_> {
+    // Whether each is as it is stored next.
+    fn are_stored(&self, input: &mut impl Read) -> io::Result<bool> {
+        let mut same = starts(input, self.out)?;
+        same &= starts(input, self.colours)?;
+        same &= starts(input, self.ends)?;
+        same &= starts(input, self.set)?;
+        same &= starts(input, self.counts)?;
+        Ok(same)
     }
-    has_part(op, s.compress, stored, got, parts)
 }
 
-// Whether `survey` answers `expected`, and leaves the lent slice as it is stored.
-fn surveys(
-    input: &mut impl Read,
-    s: Settings,
+// What a stored case is asked about.
+#[derive(Clone, Copy)]
+struct Case<'a> {
+    settings: Settings,
     label: u32,
-    list: &[u32],
-    table: &[u32],
-    expected: u64,
-    parts: &mut [u32],
-) -> io::Result<bool> {
-    let got = rudzaviks::rudzaviks_survey(list, table, s.count_regs, s.compress, label, parts);
-    Ok(starts(input, parts)? && got == expected)
+    list: &'a [u32],
+    table: &'a [u32],
 }
 
-// The same, with a slice of the stored length.
-fn replay_survey(
-    input: &mut impl Read,
-    s: Settings,
-    label: u32,
-    list: &[u32],
-    table: &[u32],
-    expected: u64,
-) -> io::Result<bool> {
-    let mut parts = [FILL; PARTS];
-    let n = length_to(input, PARTS)?;
-    surveys(input, s, label, list, table, expected, &mut parts[..n])
-}
+impl Case<'_> {
+    fn survey(self, parts: &mut [u32]) -> u64 {
+        let s = self.settings;
+        rudzaviks_survey(
+            self.list,
+            self.table,
+            s.count_regs,
+            s.compress,
+            self.label,
+            parts,
+        )
+    }
 
-// Whether `optimize` answers `expected`, and leaves the lent slices as they are stored.
-fn reduces(
-    input: &mut impl Read,
-    s: Settings,
-    list: &[u32],
-    table: &[u32],
-    expected: u64,
-    out: &mut [u32],
-    colours: &mut [u32],
-    ends: &mut [u32],
-    set: &mut [u32],
-    counts: &mut [u32],
-) -> io::Result<bool> {
-    let got = rudzaviks::rudzaviks_optimize(
-        list,
-        table,
-        s.count_regs,
-        s.args,
-        s.complex,
-        s.arm,
-        s.compress,
-        out,
-        colours,
-        ends,
-        set,
-        counts,
-    );
-    let mut same = got == expected;
-    same = starts(input, out)? && same;
-    same = starts(input, colours)? && same;
-    same = starts(input, ends)? && same;
-    same = starts(input, set)? && same;
-    Ok(starts(input, counts)? && same)
-}
+    fn optimize(self, lent: &mut Lent<'_>) -> u64 {
+        let s = self.settings;
+        rudzaviks_optimize(
+            self.list,
+            self.table,
+            s.count_regs,
+            s.args,
+            s.complex,
+            s.arm,
+            s.compress,
+            lent.out,
+            lent.colours,
+            lent.ends,
+            lent.set,
+            lent.counts,
+        )
+    }
 
-// The same, with slices of the stored lengths.
-fn replay_optimize(
-    input: &mut impl Read,
-    s: Settings,
-    list: &[u32],
-    table: &[u32],
-    expected: u64,
-) -> io::Result<bool> {
-    let mut out = [FILL; OUT];
-    let mut colours = [FILL; STATICS];
-    let mut ends = [FILL; STATICS];
-    let mut set = [FILL; SET];
-    let mut counts = [FILL; COUNTS];
-    let o = length_to(input, OUT)?;
-    let c = length_to(input, STATICS)?;
-    let e = length_to(input, STATICS)?;
-    let m = length_to(input, SET)?;
-    let n = length_to(input, COUNTS)?;
-    reduces(
-        input,
-        s,
-        list,
-        table,
-        expected,
-        &mut out[..o],
-        &mut colours[..c],
-        &mut ends[..e],
-        &mut set[..m],
-        &mut counts[..n],
-    )
-}
+    // Whether `survey` gives the stored part: the mask and how many registers it names, or the label's place; or its
+    // refusal, which leaves the lent words. The first has lists of at most 32 registers, so that the mask's high word has
+    // every bit with `compress`, and else none.
+    fn has_part(self, operation: Operation, stored: Stored) -> bool {
+        let mut parts = [FILL; 4];
+        let got = self.survey(&mut parts);
+        if stored.is_refusal() {
+            return got == stored.answer() && parts == [FILL; 4];
+        }
+        let every = if self.settings.compress == 0 {
+            0
+        } else {
+            u32::MAX
+        };
+        let [low, high, count, place] = parts;
+        match operation {
+            Operation::Registers => {
+                [low, high, count] == [stored.low, every, stored.registers()]
+            }
+            Operation::Place => got == u64::from(stored.low) && place == stored.low,
+            _ => false,
+        }
+    }
 
-// Whether the answer is the stored one, which comes next.
-fn agrees(
-    input: &mut impl Read,
-    op: u32,
-    s: Settings,
-    label: u32,
-    list: &[u32],
-    table: &[u32],
-) -> io::Result<bool> {
-    let low = word(input)?;
-    let high = word(input)?;
-    let expected = (high as u64) * 4_294_967_296 + (low as u64);
-    match op {
-        3 => replay_optimize(input, s, list, table, expected),
-        4 => replay_survey(input, s, label, list, table, expected),
-        _ => Ok(replay_part(op, s, label, list, table, Part { low, high })),
+    // Whether `survey` gives the stored answer, and leaves a slice of the stored length as it is stored.
+    fn surveys(self, stored: Stored, input: &mut impl Read) -> io::Result<bool> {
+        let mut parts = [FILL; PARTS];
+        let n = length_to(input, PARTS)?;
+        let got = self.survey(&mut parts[..n]);
+        Ok(starts(input, &parts[..n])? && got == stored.answer())
+    }
+
+    // Whether `optimize` gives the stored answer, and leaves slices of the stored lengths as they are stored.
+    fn optimizes(self, stored: Stored, input: &mut impl Read) -> io::Result<bool> {
+        let mut out = [FILL; OUT];
+        let mut colours = [FILL; STATICS];
+        let mut ends = [FILL; STATICS];
+        let mut set = [FILL; SET];
+        let mut counts = [FILL; COUNTS];
+        let mut lent = Lent {
+            out: &mut out[..length_to(input, OUT)?],
+            colours: &mut colours[..length_to(input, STATICS)?],
+            ends: &mut ends[..length_to(input, STATICS)?],
+            set: &mut set[..length_to(input, SET)?],
+            counts: &mut counts[..length_to(input, COUNTS)?],
+        };
+        let got = self.optimize(&mut lent);
+        Ok(lent.are_stored(input)? && got == stored.answer())
+    }
+
+    // Whether the operation's answer is the stored one, which comes next.
+    fn agrees(self, operation: Operation, input: &mut impl Read) -> io::Result<bool> {
+        let stored = Stored::read(input)?;
+        match operation {
+            Operation::Optimize => self.optimizes(stored, input),
+            Operation::Survey => self.surveys(stored, input),
+            _ => Ok(self.has_part(operation, stored)),
+        }
     }
 }
 
 // Whether the next case's answer is the stored one.
 fn replay(input: &mut impl Read) -> io::Result<bool> {
-    let op = word(input)?;
-    let s = read_settings(input)?;
+    let operation = Operation::from(word(input)?);
+    let settings = Settings::read(input)?;
     let label = word(input)?;
-    let mut table = [0u32; TABLE];
-    let pairs = word(input)? as usize;
-    if !words(input, &mut table, pairs)? {
+    let mut table = [0; TABLE];
+    let Some(table) = words(input, &mut table)? else {
         return Ok(false);
-    }
-    let mut list = [0u32; LIST];
-    let n = word(input)? as usize;
-    if !words(input, &mut list, n)? {
+    };
+    let mut list = [0; LIST];
+    let Some(list) = words(input, &mut list)? else {
         return Ok(false);
-    }
-    agrees(input, op, s, label, &list[..n], &table[..pairs])
-}
-
-// Replays case `i`, names it where it differs, and answers how many cases differed.
-fn count_differing(input: &mut impl Read, out: &mut impl Write, i: u32) -> io::Result<u32>
-    ensures { IfOk result (λ n. n ≤ 1) }
-{
-    if replay(input)? {
-        return Ok(0);
-    }
-    print_text(out, b"differs: case ")?;
-    print_number(out, i)?;
-    print_text(out, b"\n")?;
-    Ok(1)
+    };
+    let case = Case {
+        settings,
+        label,
+        list,
+        table,
+    };
+    case.agrees(operation, input)
 }
 
 fn main(rt: HostRuntime) -> io::Result<()> {
     let mut input = rt.stdin();
     let mut out = rt.stdout();
     let cases = word(&mut input)?;
-    let mut differ = 0;
-    let mut i = 0;
-    while i < cases {
-        differ += count_differing(&mut input, &mut out, i)?;
-        i += 1;
+    let mut differ = 0u32;
+    for i in 0..cases {
+        if !replay(&mut input)? {
+            writeln!(out, "differs: case {i}")?;
+            differ += 1;
+        }
     }
-    print_number(&mut out, cases)?;
-    print_text(&mut out, b" answers replayed, ")?;
-    print_number(&mut out, differ)?;
-    print_text(&mut out, b" differ\n")
+    writeln!(out, "{cases} answers replayed, {differ} differ")
 }

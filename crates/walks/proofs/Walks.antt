@@ -11,12 +11,13 @@ use Rattle.mir.specs.Shapes.{any}
 use Rattle.mir.proofs.Passing.{ListPasses}
 use Rattle.mir.proofs.Renaming.{statics_two}
 use Rattle.passes.specs.Color.{setup}
+use Rattle.passes.specs.declared.symbol.Loc.{Loc}
 use Rattle.passes.specs.Create.{ends_of}
 use Rattle.passes.specs.Machine.{Passing}
 use Rattle.theorems.proofs.Members.{few_members}
 use Rattle.theorems.proofs.NeverEmpty.{ready_to}
 use Rattle.walks.specs.declared.contract.Tally.{Tally}
-use Rattle.passes.specs.Contract.{colours_of, members_of, counts_of, words_of}
+use Rattle.passes.specs.Contract.{colours_of, members_of, counts_of}
 use Rattle.mir.specs.Answers.{over}
 use Rattle.coloring.specs.Coloring.{marked_ends, founds_to}
 use Rattle.walks.specs.Walks.{Colored, Contracted}
@@ -48,18 +49,16 @@ module _ (s : Settings) (list table : List ℕ) (h : Passing s list table) where
   few_in_set = omega (arith, few_members s list table passes (records list) (omega arith), passes.sized.small, passes.sized.few)
 
   -- what the third walk leaves
-  pub colored : (C0 E0 S0 : List ℕ) {C E S : List ℕ} {members : ℕ} → records list * 2 ≤ length C → records list * 2 ≤ length E
-      → C ≡ over (colours_of s list table) C0 → E ≡ over (marked_ends s list table) E0 → S ≡ over (words_of (members_of s list table)) S0
-      → members ≡ length (members_of s list table) → Colored s list table C E S members
-  colored C0 E0 S0 c e p q r m =
+  pub colored : (C0 E0 : List ℕ) {C E : List ℕ} {members : List Loc} → records list * 2 ≤ length C → records list * 2 ≤ length E
+      → C ≡ over (colours_of s list table) C0 → E ≡ over (marked_ends s list table) E0 → members ≡ members_of s list table → Colored s list table C E members
+  colored C0 E0 c e p q m =
       record {
         passing = h;
         colours_room = c;
         ends_room = e;
         colours_start = starts (colours_of s list table) C0 p;
         ends_start = starts (marked_ends s list table) E0 q;
-        count = m;
-        set_start = starts (words_of (members_of s list table)) S0 r;
+        members_are = m;
       }
 
   -- the ends, after the walk that makes them, the one that marks them and the one that takes the marks away

@@ -1,7 +1,6 @@
 -- Inner: what the last walk and all walks together do to the lent slices.
-use Rattle.std.specs.Prelude.{ℕ, ◌+◌, ◌*◌, ◌/◌, ◌%◌, ◌<◌, ◌≤◌, Bool, cond, List, [], ◌∷◌, ◌++◌, ◌≡◌, length, get_or, set, take, drop}
+use Rattle.std.specs.Prelude.{ℕ, ◌+◌, ◌*◌, ◌/◌, ◌%◌, ◌<◌, ◌≤◌, Bool, cond, List, [], ◌∷◌, ◌++◌, ◌≡◌, length, get_or, set, take, drop, Option}
 use Rattle.mir.specs.declared.config.Settings.{Settings}
-use Rattle.mir.specs.declared.rename.Current.{Current}
 use Rattle.mir.specs.Records.{records, is_gen}
 use Rattle.mir.specs.Renaming.{one}
 use Rattle.mir.specs.Shapes.{shape_for, dests}
@@ -32,7 +31,7 @@ dest_words [] n colours = []
 dest_words (w ∷ ws) n colours = cond (is_gen w) (get_or colours n 0) w ∷ dest_words ws (n + one w) colours
 
 -- a record in colours
-unfoldable pub rewritten : List Current → ℕ → List ℕ → List ℕ → List ℕ
+unfoldable pub rewritten : List (Option ℕ) → ℕ → List ℕ → List ℕ → List ℕ
 rewritten regs n colours rec =
     let shape = shape_for rec in
     take shape.regs rec
@@ -61,18 +60,17 @@ abbrev pub put_if : Bool → ℕ → List ℕ → List ℕ → List ℕ
 put_if kept at rec out = cond kept (take at out ++ over rec (drop at out)) out
 
 -- what becomes of a record
-abbrev pub outcome_in : ℕ → List Loc → List Current → ℕ → List ℕ → List ℕ → List ℕ → Outcome
+abbrev pub outcome_in : ℕ → List Loc → List (Option ℕ) → ℕ → List ℕ → List ℕ → List ℕ → Outcome
 outcome_in fixed members regs n colours ends rec = outcome_of fixed members (was_found (dests rec) n ends) (rewritten regs n colours rec)
 
--- what the third walk leaves: n words that the slice of colours, of marked ends and of members starts with
-pub record Colored (s : Settings) (list table colours ends set : List ℕ) (members : ℕ) : Type 0 where
+-- what the third walk leaves: the words that the slices of colours and of marked ends start with, and the read set
+pub record Colored (s : Settings) (list table colours ends : List ℕ) (members : List Loc) : Type 0 where
   pub passing : Passing s list table
   pub colours_room : records list * 2 ≤ length colours
   pub ends_room : records list * 2 ≤ length ends
   pub colours_start : colours ≡ over (colours_of s list table) colours
   pub ends_start : ends ≡ over (marked_ends s list table) ends
-  pub count : members ≡ length (members_of s list table)
-  pub set_start : set ≡ over (words_of (members_of s list table)) set
+  pub members_are : members ≡ members_of s list table
 
 -- what the last walk gives: the counts, the ends without marks, and the reduced list
 pub record Contracted (s : Settings) (list table : List ℕ) (r : Tally) (ends ends' out out' : List ℕ) : Type 0 where

@@ -1,16 +1,14 @@
 // The last walk (document 01, section 4): the records that are kept, in colours.
 ghost use Rattle.std.specs.Prelude.{ℕ, ◌+◌, ◌*◌, ◌<◌, ◌≤◌, ◌%◌, true, cond, ◌&&◌, ◌||◌, not, List, map, ◌≡◌, length, get_or, set, take, drop};
 ghost use Rattle.std.proofs.lemmas.List.Edits.{sets};
-ghost use Rattle.mir.specs.Inner.{currents_in};
 ghost use Rattle.mir.specs.Answers.{over};
 ghost use Rattle.lives.specs.Lives.{KnownIn};
-ghost use Rattle.sets.specs.Sets.{Indexed};
+ghost use Rattle.sets.specs.Members.{members_in};
 ghost use Rattle.walks.specs.Walks.{Colored, Contracted, Short, dest_words, rewritten, outcome_in, unmarked, tallied, put_if};
-ghost use Rattle.mir.specs.Folds.{all};
-ghost use Rattle.mir.specs.Questions.{gen_fits, gens_fit, partner_fits};
-ghost use Rattle.mir.specs.Records.{is_gen, max_regs};
+ghost use Rattle.mir.specs.Questions.{partner_fits};
+ghost use Rattle.mir.specs.Records.{is_gen};
 ghost use Rattle.mir.specs.Shapes.{any, dests, shape_for};
-ghost use Rattle.passes.specs.Color.{source_word, pairs_from, is_member};
+ghost use Rattle.passes.specs.Color.{source_word, is_member};
 ghost use Rattle.passes.specs.Color as color;
 ghost use Rattle.passes.specs.Contract.{is_beyond, is_kept, outcome_of};
 ghost use Rattle.passes.specs.declared.alloc.Outcome.TheVariants as outcomes;
@@ -18,12 +16,12 @@ ghost use Rattle.passes.specs.declared.alloc.Outcome.TheVariants as outcomes;
 use coloring::{FOUND, deallocate, loc_of, was_found};
 use colours::allocs::partner;
 use mir::config::{MAX_REGS, Settings};
-use mir::record::record_at;
-use mir::rename::{UNSET, count_static, count_statics, rename};
+use mir::record::records_of;
+use mir::rename::{count_static, count_statics, rename};
 use mir::shape::{Dests, LOAD, LOAD_COMPLEX, MOV, NOP, SAVE, SAVE_COMPLEX, dests_of, shape_of};
 use passes::alloc::Outcome;
 use passes::symbol::Loc;
-use sets::contains;
+use sets::ReadSet;
 
 // A destination in colours: the colour of its static, which is `next`.
 fn dest_word(w: u32, next: usize, colours: &[u32]) -> u32
@@ -56,127 +54,72 @@ fn rewrite_dests(rec: [u32; 8], next: usize, colours: &[u32]) -> [u32; 8]
     }
 }
 
-// A record with the `count` source words from `from` on in colours.
-fn rewrite_words(
-    rec: [u32; 8],
-    from: usize,
-    count: usize,
-    regs: &[u32; MAX_REGS],
-    colours: &[u32],
-) -> [u32; 8]
-    requires count_bound { from + count ≤ 8 }
-    requires rec_value { all (gen_fits max_regs) (take count (drop from rec)) ≡ true }
-    requires known_in { KnownIn regs.now (length colours.now) }
-    ensures { result ≡ sets rec from (map (source_word (currents_in regs.now) colours.now) (take count (drop from rec))) }
+// Words in colours, each where it stood.
+fn recolour(words: &mut [u32], regs: &[Option<u32>; MAX_REGS], colours: &[u32])
+    requires { KnownIn regs.now (length colours.now) }
+    ensures { words.new ≡ map (source_word regs.now colours.now) words.old }
 {
-    let mut out = rec;
-    let mut j = 0;
-    while j < count {
-        out[from + j] = deallocate(regs, rec[from + j], colours);
-        j += 1;
+    for w in words.iter_mut() {
+        *w = deallocate(regs, *w, colours);
     }
-    out
 }
 
 // A record in colours; `next` is its first static.
-fn rewrite(rec: [u32; 8], regs: &[u32; MAX_REGS], next: usize, colours: &[u32]) -> [u32; 8]
-    requires rec_value { gens_fit max_regs rec ≡ true }
-    requires next_in_bounds { next + 2 ≤ length colours.now }
+fn rewrite(rec: [u32; 8], regs: &[Option<u32>; MAX_REGS], next: usize, colours: &[u32]) -> [u32; 8]
+    requires colours_room { next + 2 ≤ length colours.now }
     requires known_in { KnownIn regs.now (length colours.now) }
-    ensures { result ≡ rewritten (currents_in regs.now) next colours.now rec }
+    ensures { result ≡ rewritten regs.now next colours.now rec }
 {
     let s = shape_of(rec[0]);
     let from = s.regs + s.dsts;
-    let count = s.srcs;
-    let with = rewrite_dests(rec, next, colours);
-    rewrite_words(with, from, count, regs, colours)
+    let mut out = rewrite_dests(rec, next, colours);
+    recolour(&mut out[from..from + s.srcs], regs, colours);
+    out
 }
 
 // Whether nobody looks at a cell after the run.
 fn is_beyond(fixed: u64, l: Loc) -> bool
     ensures { result ≡ is_beyond fixed l }
 {
-    if l.space != 0 {
-        return false;
-    }
-    fixed <= (l.index as u64)
-}
-
-// What becomes of a Save to a location.
-fn save_outcome(l: Loc, fixed: u64, locs: &[u32], members: usize, seen: &[u64]) -> Outcome
-    requires indexed { Indexed seen.now (pairs_from locs.now 0 members) }
-    requires members_in_bounds { members * 2 ≤ length locs.now }
-    ensures { result ≡ cond (is_beyond fixed l && not (is_member l (pairs_from locs.now 0 members))) outcomes.Save outcomes.Kept }
-{
-    if !is_beyond(fixed, l) {
-        return Outcome::Kept;
-    }
-    if contains(locs, members, l, seen) {
-        return Outcome::Kept;
-    }
-    Outcome::Save
+    l.space == 0 && fixed <= u64::from(l.index)
 }
 
 // Whether either half of a location is a member; `x` is the first half.
-fn contains_either(x: Loc, locs: &[u32], members: usize, seen: &[u64]) -> bool
-    requires indexed { Indexed seen.now (pairs_from locs.now 0 members) }
+fn contains_either(x: Loc, set: &ReadSet<'_>) -> bool
     requires index_lt_any { x.index < any }
-    requires members_in_bounds { members * 2 ≤ length locs.now }
-    ensures { result ≡ (is_member x (pairs_from locs.now 0 members) || is_member (color.partner x) (pairs_from locs.now 0 members)) }
+    ensures { result ≡ (is_member x (members_in set.now) || is_member (color.partner x) (members_in set.now)) }
 {
-    if contains(locs, members, x, seen) {
-        return true;
-    }
-    contains(locs, members, partner(x), seen)
+    set.contains(x) || set.contains(partner(x))
 }
 
-// What becomes of a SaveComplex to a location.
-fn save_complex_outcome(l: Loc, fixed: u64, locs: &[u32], members: usize, seen: &[u64]) -> Outcome
-    requires indexed { Indexed seen.now (pairs_from locs.now 0 members) }
-    requires index_lt_any { l.index < any }
-    requires members_in_bounds { members * 2 ≤ length locs.now }
-    ensures { result ≡ cond (is_beyond fixed l && not (is_member l (pairs_from locs.now 0 members) || is_member (color.partner l) (pairs_from locs.now 0 members))) outcomes.Save outcomes.Kept }
+// A record that goes as `kind` where nothing reads it, and stays otherwise.
+fn drop_if(drop: bool, kind: Outcome) -> Outcome
+    ensures { result ≡ cond drop kind outcomes.Kept }
 {
-    if !is_beyond(fixed, l) {
-        return Outcome::Kept;
-    }
-    if contains_either(l, locs, members, seen) {
-        return Outcome::Kept;
-    }
-    Outcome::Save
+    if drop { kind } else { Outcome::Kept }
 }
 
 // What becomes of a record in colours; `found` says that all its destinations were found.
-fn outcome_of(
-    rec: [u32; 8],
-    found: bool,
-    fixed: u64,
-    locs: &[u32],
-    members: usize,
-    seen: &[u64],
-) -> Outcome
-    requires indexed { Indexed seen.now (pairs_from locs.now 0 members) }
-    requires rec_value { partner_fits rec ≡ true }
-    requires members_in_bounds { members * 2 ≤ length locs.now }
-    ensures { result ≡ outcome_of fixed (pairs_from locs.now 0 members) found rec }
+fn outcome_of(rec: [u32; 8], found: bool, fixed: u64, set: &ReadSet<'_>) -> Outcome
+    requires { partner_fits rec ≡ true }
+    ensures { result ≡ outcome_of fixed (members_in set.now) found rec }
 {
     let kind = rec[0];
     match kind {
         NOP => Outcome::Nop,
-        LOAD | LOAD_COMPLEX => {
-            if found {
-                return Outcome::Load;
-            }
-            Outcome::Kept
+        LOAD | LOAD_COMPLEX => drop_if(found, Outcome::Load),
+        MOV => drop_if(rec[1] == rec[2], Outcome::Move),
+        SAVE => {
+            let l = loc_of(rec);
+            drop_if(is_beyond(fixed, l) && !set.contains(l), Outcome::Save)
         }
-        MOV => {
-            if rec[1] == rec[2] {
-                return Outcome::Move;
-            }
-            Outcome::Kept
+        SAVE_COMPLEX => {
+            let l = loc_of(rec);
+            drop_if(
+                is_beyond(fixed, l) && !contains_either(l, set),
+                Outcome::Save,
+            )
         }
-        SAVE => save_outcome(loc_of(rec), fixed, locs, members, seen),
-        SAVE_COMPLEX => save_complex_outcome(loc_of(rec), fixed, locs, members, seen),
         _ => Outcome::Kept,
     }
 }
@@ -216,11 +159,7 @@ fn push(rec: [u32; 8], out: &mut [u32])
     requires { 8 ≤ length out.old }
     ensures { out.new ≡ over rec out.old }
 {
-    let mut p = 0;
-    while p < 8 {
-        out[p] = rec[p];
-        p += 1;
-    }
+    out[..8].copy_from_slice(&rec);
 }
 
 // A record that is kept goes into the output's part from the next record on.
@@ -229,13 +168,8 @@ fn keep(outcome: Outcome, rec: [u32; 8], at: usize, out: &mut [u32])
     ensures { out.new ≡ put_if (is_kept outcome) at rec out.old }
 {
     match outcome {
-        Outcome::Kept => {
-            push(rec, &mut out[at..]);
-        }
-        Outcome::Nop => {}
-        Outcome::Load => {}
-        Outcome::Move => {}
-        Outcome::Save => {}
+        Outcome::Kept => push(rec, &mut out[at..]),
+        Outcome::Nop | Outcome::Load | Outcome::Move | Outcome::Save => {}
     }
 }
 
@@ -249,83 +183,50 @@ pub struct Tally {
     pub saves: u32,
 }
 
-// One record more.
-fn add_outcome(t: Tally, outcome: Outcome) -> Tally
-    requires { Short t any }
-    ensures { result ≡ tallied outcome t }
-{
-    match outcome {
-        Outcome::Kept => Tally {
-            records: t.records + 1,
-            nops: t.nops,
-            loads: t.loads,
-            moves: t.moves,
-            saves: t.saves,
-        },
-        Outcome::Nop => Tally {
-            records: t.records,
-            nops: t.nops + 1,
-            loads: t.loads,
-            moves: t.moves,
-            saves: t.saves,
-        },
-        Outcome::Load => Tally {
-            records: t.records,
-            nops: t.nops,
-            loads: t.loads + 1,
-            moves: t.moves,
-            saves: t.saves,
-        },
-        Outcome::Move => Tally {
-            records: t.records,
-            nops: t.nops,
-            loads: t.loads,
-            moves: t.moves + 1,
-            saves: t.saves,
-        },
-        Outcome::Save => Tally {
-            records: t.records,
-            nops: t.nops,
-            loads: t.loads,
-            moves: t.moves,
-            saves: t.saves + 1,
-        },
+impl Tally {
+    // One record more.
+    fn add(&mut self, outcome: Outcome)
+        requires { Short self.old any }
+        ensures { self.new ≡ tallied outcome self.old }
+    {
+        match outcome {
+            Outcome::Kept => self.records += 1,
+            Outcome::Nop => self.nops += 1,
+            Outcome::Load => self.loads += 1,
+            Outcome::Move => self.moves += 1,
+            Outcome::Save => self.saves += 1,
+        }
     }
 }
 
 // One record: what it is rewritten to goes out, if it is kept, after the records that were.
 fn contract_record(
     rec: [u32; 8],
-    regs: &[u32; MAX_REGS],
+    regs: &[Option<u32>; MAX_REGS],
     next: usize,
     fixed: u64,
     colours: &[u32],
     ends: &mut [u32],
-    locs: &[u32],
-    members: usize,
-    tally: Tally,
+    set: &ReadSet<'_>,
+    tally: &mut Tally,
     out: &mut [u32],
-    seen: &[u64],
-) -> Tally
-    requires indexed { Indexed seen.now (pairs_from locs.now 0 members) }
-    requires rec_value { gens_fit max_regs rec ≡ true }
-    requires rec_value_2 { partner_fits rec ≡ true }
-    requires next_in_bounds { next + 2 ≤ length colours.now }
-    requires next_in_bounds_2 { next + 2 ≤ length ends.old }
+)
+    requires partner_fits { partner_fits rec ≡ true }
+    requires colours_room { next + 2 ≤ length colours.now }
+    requires ends_room { next + 2 ≤ length ends.old }
     requires known_in { KnownIn regs.now (length colours.now) }
-    requires members_in_bounds { members * 2 ≤ length locs.now }
-    requires short { Short tally any }
-    requires records_in_bounds { tally.records * 8 + 8 ≤ length out.old }
-    ensures tally { result ≡ tallied (outcome_in fixed (pairs_from locs.now 0 members) (currents_in regs.now) next colours.now ends.old rec) tally }
+    requires short { Short tally.old any }
+    requires records_in_bounds { tally.old.records * 8 + 8 ≤ length out.old }
+    ensures tally { tally.new ≡ tallied (outcome_in fixed (members_in set.now) regs.now next colours.now ends.old rec) tally.old }
     ensures ends { ends.new ≡ unmarked (dests rec) next ends.old }
-    ensures out { out.new ≡ put_if (is_kept (outcome_in fixed (pairs_from locs.now 0 members) (currents_in regs.now) next colours.now ends.old rec)) (tally.records * 8) (rewritten (currents_in regs.now) next colours.now rec) out.old }
+    ensures out { out.new ≡ put_if (is_kept (outcome_in fixed (members_in set.now) regs.now next colours.now ends.old rec)) (tally.old.records * 8) (rewritten regs.now next colours.now rec) out.old }
 {
     let found = was_found(rec, next, ends);
     unmark(rec, next, ends);
     let written = rewrite(rec, regs, next, colours);
-    let outcome = outcome_of(written, found, fixed, locs, members, seen);
+    let outcome = outcome_of(written, found, fixed, set);
     keep(outcome, written, (tally.records as usize) * 8, out);
-    add_outcome(tally, outcome)
+    tally.add(outcome);
 }
 
 // The reduced list, from the colours, the marked ends and the read set; the ends lose their marks.
@@ -334,19 +235,15 @@ pub fn contract(
     settings: Settings,
     colours: &[u32],
     ends: &mut [u32],
-    locs: &[u32],
-    members: usize,
+    set: &ReadSet<'_>,
     out: &mut [u32],
-    seen: &[u64],
 ) -> Tally
-    requires indexed { Indexed seen.now (pairs_from locs.now 0 members) }
-    requires by_index { (table : List ℕ) × Colored settings list.now table colours.now ends.old locs.now members }
-    requires list_in_bounds { length list.now ≤ length out.old }
-    ensures { (table : List ℕ) → Colored settings list.now table colours.now ends.old locs.now members → Contracted settings list.now table result ends.old ends.new out.old out.new }
+    requires colored { (table : List ℕ) × Colored settings list.now table colours.now ends.old (members_in set.now) }
+    requires out_room { length list.now ≤ length out.old }
+    ensures { (table : List ℕ) → Colored settings list.now table colours.now ends.old (members_in set.now) → Contracted settings list.now table result ends.old ends.new out.old out.new }
 {
-    let count = list.len() / 8;
     let fixed = settings.fixed();
-    let mut regs = [UNSET; MAX_REGS];
+    let mut regs = [None; MAX_REGS];
     let mut statics = 0;
     let mut tally = Tally {
         records: 0,
@@ -355,17 +252,13 @@ pub fn contract(
         moves: 0,
         saves: 0,
     };
-    let mut i = 0;
-    while i < count {
-        let rec = record_at(list, i);
+    for &rec in records_of(list) {
         let first = statics as usize;
-        let added = contract_record(
-            rec, &regs, first, fixed, colours, ends, locs, members, tally, out, seen,
+        contract_record(
+            rec, &regs, first, fixed, colours, ends, set, &mut tally, out,
         );
         rename(&mut regs, rec, statics);
-        tally = added;
         statics += count_statics(rec);
-        i += 1;
     }
     tally
 }

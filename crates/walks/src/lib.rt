@@ -1,19 +1,19 @@
-// The walks over a list that passes (the Rust's `create`, `color` and `contract`), and the working space that they take.
+// The walks over a list that passes, one after the other: `create` of crate lives, `color` of crate coloring, and `contract`.
 #![tactic(auto)]
 
 ghost use Rattle.std.specs.Prelude.{◌≤◌, [], ◌∷◌, ◌≡◌, length};
 ghost use Rattle.mir.specs.Shapes.{any};
 ghost use Rattle.passes.specs.Machine.{Passing};
 ghost use Rattle.walks.specs.Lent.{lent, values_in};
-ghost use Rattle.sets.specs.Sets.{Indexed};
 ghost use Rattle.walks.specs.Walks.{Roomy, Reduces};
 
 pub mod contract;
 
 use crate::contract::Tally;
-use coloring::{Sizes, color};
+use coloring::color;
 use lives::create;
 use mir::config::Settings;
+use sets::ReadSet;
 
 // What the reduced list and the lent slices have, and what was dropped.
 #[derive(Clone, Copy)]
@@ -27,14 +27,14 @@ pub struct Counts {
     pub saves: u32,
 }
 
-fn counts_of(sizes: Sizes, tally: Tally) -> Counts
-    requires { (sizes.statics ≤ any) × (sizes.members ≤ any) }
-    ensures { values_in result ≡ tally.records ∷ sizes.statics ∷ sizes.members ∷ tally.nops ∷ tally.loads ∷ tally.moves ∷ tally.saves ∷ [] }
+fn counts_of(statics: usize, members: usize, tally: Tally) -> Counts
+    requires { (statics ≤ any) × (members ≤ any) }
+    ensures { values_in result ≡ tally.records ∷ statics ∷ members ∷ tally.nops ∷ tally.loads ∷ tally.moves ∷ tally.saves ∷ [] }
 {
     Counts {
         records: tally.records,
-        statics: sizes.statics as u32,
-        members: sizes.members as u32,
+        statics: statics as u32,
+        members: members as u32,
         nops: tally.nops,
         loads: tally.loads,
         moves: tally.moves,
@@ -42,30 +42,7 @@ fn counts_of(sizes: Sizes, tally: Tally) -> Counts
     }
 }
 
-// The four walks over a list that passes; the first, which renames, is part of each of the others. The index of the read set
-// starts empty.
-fn walk(
-    list: &[u32],
-    table: &[u32],
-    settings: Settings,
-    out: &mut [u32],
-    colours: &mut [u32],
-    ends: &mut [u32],
-    set: &mut [u32],
-    seen: &mut [u64],
-) -> Counts
-    requires indexed { Indexed seen.old [] }
-    requires passing { Passing settings list.now table.now }
-    requires roomy { Roomy (length list.now) (length table.now) (length out.old) (length colours.old) (length ends.old) (length set.old) }
-    ensures { Reduces settings list.now table.now (lent out.old colours.old ends.old set.old) (lent out.new colours.new ends.new set.new) result }
-{
-    create(list, ends);
-    let sizes = color(list, table, settings, colours, ends, set, seen);
-    let tally = contract::contract(list, settings, colours, ends, set, sizes.members, out, seen);
-    counts_of(sizes, tally)
-}
-
-// The walks over a list that passes, with an index of the read set for the first 65,536 cells of each space.
+// The three walks over a list that passes; each renames the registers as it goes.
 pub fn reduce(
     list: &[u32],
     table: &[u32],
@@ -79,6 +56,9 @@ pub fn reduce(
     requires roomy { Roomy (length list.now) (length table.now) (length out.old) (length colours.old) (length ends.old) (length set.old) }
     ensures { Reduces settings list.now table.now (lent out.old colours.old ends.old set.old) (lent out.new colours.new ends.new set.new) result }
 {
-    let mut seen = [0u64; 3_072];
-    walk(list, table, settings, out, colours, ends, set, &mut seen)
+    create(list, ends);
+    let mut read = ReadSet::new(set);
+    let statics = color(list, table, settings, colours, ends, &mut read);
+    let tally = contract::contract(list, settings, colours, ends, &read, out);
+    counts_of(statics, read.len(), tally)
 }

@@ -1,25 +1,31 @@
--- `coloring::expire_sources` meets its contract: the sources are the words that the shape says.
-use native.Mathlib.Omega.{arith}
-use Rattle.mir.specs.Records.{max_regs}
-use Rattle.mir.specs.Shapes.{sources}
-use Rattle.mir.proofs.Renaming.{gens_fit_both}
-use Rattle.mir.proofs.Shapes.{room}
+-- `coloring::expire_sources` meets its contract: the sources passed have become free, if their lives end here.
+-- By one source more.
+use native.Mathlib.Numerals.{add-one}
+use lib.ListN.{length-map}
+use lib.Seq.{take-suc, take_all}
+use Rattle.std.proofs.lemmas.List.{get_or-map, map-append}
+use Rattle.passes.specs.Color.{source_word}
+use Rattle.colours.proofs.Expiring.{expired_none, expired_more}
 use Rattle.coloring.proofs.expire_sources.Goals as goal
 
-pub overflow_add-from : goal.overflow_add-from
-overflow_add-from c = omega (arith, room _ c.shape_of-s.ensures)
+pub loop-w-init : goal.loop-w-init
+loop-w-init c = expired_none _ _
 
-pub expire_words-requires : goal.expire_words-requires
-unfolding sources
-expire_words-requires c =
-    let sources_fit = (gens_fit_both max_regs _ c.requires.rec_value).1 in
-    record {
-      count_bound = omega (arith, room _ c.shape_of-s.ensures);
-      rec_value = rw c.shape_of-s.ensures sources_fit;
-      known_in = c.requires.known_in;
-      coloured = rw c.shape_of-s.ensures c.requires.coloured;
-    }
+-- its colour is among the record's
+pub expire-requires : goal.expire-requires
+expire-requires c =
+    let f = source_word c.args.regs.now c.args.colours.now in
+    let ws = c.sources_of-w-items.result.now in
+    let coloured = rw (← c.sources_of-w-items.ensures) at c.requires.coloured in
+    rw (c.deallocate.ensures, ← (get_or-map f ws c.loop-w.w-index 0 0 c.loop-w-test.true)) (coloured c.loop-w.w-index (rw (length-map ws f) c.loop-w-test.true))
+
+pub loop-w-preserved : goal.loop-w-preserved
+loop-w-preserved c =
+    let f = source_word c.args.regs.now c.args.colours.now in
+    let ws = c.sources_of-w-items.result.now in
+    rw (add-one, take-suc ws c.loop-w.w-index 0 c.loop-w-test.true, map-append) (expired_more _ c.loop-w.invariant (rw c.deallocate.ensures at c.expire.ensures))
 
 pub returns : goal.returns
-unfolding sources
-returns c = rw (← c.shape_of-s.ensures) c.expire_words.ensures
+returns c =
+    let ws = c.sources_of-w-items.result.now in
+    rw (← c.sources_of-w-items.ensures) (rw (take_all c.loop-w.w-index ws c.loop-w-test.false) at c.loop-w.invariant)

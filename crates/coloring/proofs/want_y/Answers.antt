@@ -1,19 +1,13 @@
 -- `coloring::want_y` meets its contract: by the action.
 -- The arm for the rest by what holds at each of their tags.
+use Rattle.std.specs.Prelude.{None}
 use mathlib.Core.List.{[], ◌∷◌}
 use mathlib.Core.Path.{◌≡◌, refl, ◌∙◌}
-use Rattle.passes.specs.declared.alloc.Held.TheVariants.{Nothing}
 use Rattle.passes.specs.Color.{want_y}
 use borrow.Enum.Refused.{opened}
 use Rattle.theorems.proofs.Actions.{in_arm}
 use Rattle.colours.proofs.Colours.{held_word}
 use Rattle.coloring.proofs.want_y.Goals as goal
-
-pub partner-requires : goal.partner-requires
-partner-requires c = c.requires.index_lt_any c.in-LoadComplex.is
-
-pub word_of-requires : goal.word_of-requires
-word_of-requires c = rw c.partner.ensures c.requires.space_lt_any
 
 pub returns-in-LoadComplex : goal.returns-in-LoadComplex
 returns-in-LoadComplex c =
@@ -21,4 +15,4 @@ returns-in-LoadComplex c =
 
 pub returns-in_default : goal.returns-in_default
 returns-in_default c =
-    in_arm (λ k. Nothing ≡ want_y k c.args.l) (0 ∷ 1 ∷ 2 ∷ 4 ∷ 5 ∷ 6 ∷ 7 ∷ []) (refl, (refl, (refl, (refl, (refl, (refl, (refl, tt))))))) c.args.action (opened c.in_default.in_default-own.keys2)
+    in_arm (λ k. None ≡ want_y k c.args.l) (0 ∷ 1 ∷ 2 ∷ 4 ∷ 5 ∷ 6 ∷ 7 ∷ []) (refl, (refl, (refl, (refl, (refl, (refl, (refl, tt))))))) c.args.action (opened c.in_default.in_default-own.keys2)

@@ -1,42 +1,25 @@
--- `lives::consume_sources` meets its contract: the sources are the words that the shape says.
-use Prim.Native.Nat.{◌+◌}
-use mathlib.Core.Path.{ap, ◌∙◌}
-use native.Mathlib.Omega.{arith}
-use lib.ListN.{get_or, take, drop}
-use Rattle.mir.specs.Inner.{currents_in}
-use Rattle.mir.specs.declared.shape.Shape.{Shape}
-use Rattle.mir.specs.Records.{max_regs}
-use Rattle.mir.specs.Shapes.{sources}
-use Rattle.mir.proofs.Renaming.{gens_fit_both}
-use Rattle.mir.proofs.Shapes.{regs_in_record}
+-- `lives::consume_sources` meets its contract: the sources passed have been read.
+-- By one source more.
+use mathlib.Core.Path.{refl}
+use native.Mathlib.Numerals.{add-one}
+use lib.Seq.{take-suc, take_all}
 use Rattle.passes.specs.Create.{consumed}
-use borrow.Author.Rules.{rules}
+use Rattle.lives.proofs.Ends.{consumed_next}
 use Rattle.lives.proofs.consume_sources.Goals as goal
 
-pub bounds-rec-0 : goal.bounds-rec-0
-bounds-rec-0 c = search rules
+pub loop-w-init : goal.loop-w-init
+unfolding consumed
+loop-w-init c = refl
 
-pub shape_of-s-requires : goal.shape_of-s-requires
-shape_of-s-requires c = search rules
+pub consume-requires : goal.consume-requires
+consume-requires c = rw c.loop-w.auto.ends c.requires
 
-pub overflow_add-from : goal.overflow_add-from
-overflow_add-from c = rw c.shape_of-s.ensures (omega (arith, regs_in_record (get_or c.args.rec 0 0)))
-
-pub consume_words-requires : goal.consume_words-requires
-unfolding sources
-consume_words-requires c =
-    rw c.shape_of-s.ensures
-    record {
-      count_bound = omega (arith, regs_in_record (get_or c.args.rec 0 0));
-      rec_value = (gens_fit_both max_regs c.args.rec c.requires.rec_value).1;
-      known_in = c.requires.known_in;
-    }
-
-pub shape_of-ends : goal.shape_of-ends
-shape_of-ends c = search rules
+pub loop-w-preserved : goal.loop-w-preserved
+loop-w-preserved c =
+    let ws = c.sources_of-w-items.result.now in
+    rw (add-one, take-suc ws c.loop-w.w-index 0 c.loop-w-test.true, consumed_next, ← c.loop-w.invariant) c.consume.ensures
 
 pub returns : goal.returns
-unfolding sources
 returns c =
-    c.consume_words.ensures
-    ∙ ap (λ (s : Shape). consumed (currents_in c.args.regs.now) c.args.i (take s.srcs (drop (s.regs + s.dsts) c.args.rec)) c.args.ends.now) c.shape_of-s.ensures
+    let ws = c.sources_of-w-items.result.now in
+    rw (← c.sources_of-w-items.ensures) (rw (take_all c.loop-w.w-index ws c.loop-w-test.false) at c.loop-w.invariant)

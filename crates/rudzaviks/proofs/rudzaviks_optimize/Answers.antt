@@ -3,6 +3,7 @@
 use Prim.Native.Nat.{◌≤◌}
 use mathlib.Core.Path.{refl}
 use lib.ListN.{length}
+use Rattle.mir.specs.Answers.{verdict_in}
 use Rattle.mir.specs.declared.config.Settings.{Settings}
 use Rattle.walks.specs.Lent.{Lent, lent}
 use Rattle.allocator.specs.Optimize.{Optimized}
@@ -13,10 +14,10 @@ use Rattle.rudzaviks.proofs.rudzaviks_optimize.Goals as goal
 pub returns-then-counts-lt7 : goal.returns-then-counts-lt7
 returns-then-counts-lt7 c =
     let verdict = rw c.settings_of-settings.ensures at c.check.ensures in
-    rw c.verdict_word.ensures (entry_short c.check.result c.if-counts-lt7.true verdict)
+    rw c.verdict_word.ensures (entry_short (verdict_in c.check.result) c.if-counts-lt7.true verdict)
 
-pub returns-in-Reduced : goal.returns-in-Reduced
-returns-in-Reduced c =
+pub returns-in-Ok : goal.returns-in-Ok
+returns-in-Ok c =
     -- what the call was given
     let settings : Settings =
     settings_of c.args.count_regs c.args.args c.args.complex c.args.arm c.args.compress in
@@ -28,10 +29,10 @@ returns-in-Reduced c =
     rw c.settings_of-settings.ensures at c.optimize.ensures in
     let room : 7 ≤ length c.args.counts.now =
     c.if-counts-lt7.false in
-    entry_answered room promised c.in-Reduced.is c.write_counts.ensures
+    entry_answered room promised c.in-Ok.is c.write_counts.ensures
 
-pub returns-in-Refused : goal.returns-in-Refused
-returns-in-Refused c =
+pub returns-in-Err : goal.returns-in-Err
+returns-in-Err c =
     -- what the call was given
     let settings : Settings =
     settings_of c.args.count_regs c.args.args c.args.complex c.args.arm c.args.compress in
@@ -43,4 +44,4 @@ returns-in-Refused c =
     rw c.settings_of-settings.ensures at c.optimize.ensures in
     let room : 7 ≤ length c.args.counts.now =
     c.if-counts-lt7.false in
-    rw c.refusal_word.ensures (entry_answered room promised c.in-Refused.is refl)
+    rw c.refusal_word.ensures (entry_answered room promised c.in-Err.is refl)

@@ -5,9 +5,9 @@ use Rattle.rudzaviks.proofs.ReduceBytes.{bad_bytes}
 use Rattle.rudzaviks.proofs.rudzaviks_reduce.Goals as goal
 
 pub reduce_bytes-requires : goal.reduce_bytes-requires
-reduce_bytes-requires c = sym c.layout_of.ensures ∙ c.in-Counts.is
+reduce_bytes-requires c = sym c.layout_of.ensures ∙ c.in-Some.is
 
-pub returns-in-Bad : goal.returns-in-Bad
-returns-in-Bad c =
-    let layout = sym c.layout_of.ensures ∙ c.in-Bad.is in
-    rw c.refusal_word.ensures (bad_bytes layout)
+pub returns-in-None : goal.returns-in-None
+returns-in-None c =
+    let layout = sym c.layout_of.ensures ∙ c.in-None.is in
+    rw (c.refusal_word.ensures, c.of_list.ensures) (bad_bytes layout)

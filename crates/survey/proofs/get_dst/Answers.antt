@@ -4,7 +4,6 @@ use mathlib.Core.List.{[], ◌∷◌}
 use mathlib.Core.Path.{◌≡◌, sym, ◌∙◌}
 use lib.ListN.{length}
 use Rattle.survey.specs.Beside.{mask_of, bits}
-use Rattle.mir.specs.Folds.{all}
 use Rattle.mir.specs.Records.{max_regs}
 use Rattle.mir.specs.Shapes.{dests}
 use Rattle.survey.proofs.Masks.{branch_if_source, counts_condition, counts_dests}
@@ -38,7 +37,7 @@ returns-in-17 c =
     c.bit.ensures ∙ sym (counts_condition c.args.rec len c.in-17.is)
 
 pub returns-in-Nothing : goal.returns-in-Nothing
-unfolding mask_of all bits
+unfolding mask_of bits
 returns-in-Nothing c =
     rw (counts_dests c.args.rec (search rules), dests_told c.dests_of.ensures c.in-Nothing.is)
 

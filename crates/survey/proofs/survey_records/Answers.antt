@@ -1,16 +1,18 @@
 -- `survey::survey_records` meets its contract: no record passed is refused, and the first no decides; the mask is that of the records
 -- passed, and the place is the last Label's among them.
 -- By the laws of a walk that stops at the first refusal.
-use mathlib.Core.Path.{◌≡◌, refl, sym, ◌∙◌}
+use mathlib.Core.Path.{◌≡◌, refl, sym, ap, ◌∙◌}
 use native.Mathlib.Numerals.{add-one}
 use native.Mathlib.Omega.{arith}
 use mir.Syntax.{w32}
 use mir.Val.{Fits}
 use Rattle.survey.specs.Beside.{mask_to, place_in, parts, used_mask}
+use Rattle.mir.specs.Answers.{no_in}
 use Rattle.mir.specs.Branches.{label_at}
 use Rattle.mir.specs.Folds.{last_below}
 use Rattle.mir.specs.Questions.{shape_by, shape_refusal}
 use Rattle.mir.specs.Records.{max_regs, records}
+use Rattle.mir.proofs.Asked.{numbered, asked_ok}
 use Rattle.mir.proofs.Folds.{unrefused_none, unrefused_more, unrefused_stops, unrefused_ends}
 use Rattle.survey.proofs.Masks.{ones_digits}
 use Rattle.mir.proofs.Passing.{well_sized_lem, shape_passes, gens_fit_more}
@@ -20,31 +22,42 @@ pub loop-i-init : goal.loop-i-init
 unfolding mask_to last_below
 loop-i-init c = (unrefused_none, refl, refl)
 
-pub returns-then-by-ne0 : goal.returns-then-by-ne0
+pub returns-in-Err : goal.returns-in-Err
 unfolding shape_refusal
-returns-then-by-ne0 c =
+returns-in-Err c =
+    let items = c.records_of-rec-items.ensures in
+    let l = rw items.len at c.loop-i-test.true in
+    let rec = items.each c.loop-i.i l in
     -- what the record is refused by is the definition's number for it
-    let by_is : c.check_shape-by.result ≡ shape_by c.args.table.now c.args.settings.count_regs c.args.list.now c.loop-i.i =
-    rw (← c.record_at-rec.ensures) c.check_shape-by.ensures in
-    rw (← (unrefused_stops c.loop-i.invariant.0 c.loop-i-test.true by_is c.if-by-ne0.true))
+    let by_is : no_in c.check_shape-answer.result ≡ shape_by c.args.table.now c.args.settings.count_regs c.args.list.now c.loop-i.i =
+    rw (← rec) c.check_shape-answer.ensures in
+    rw (
+      c.of_record.ensures,
+      ← (unrefused_stops c.loop-i.invariant.0 l (sym (ap no_in c.in-Err.is) ∙ by_is) (numbered c.in-Err.question)),
+    )
 
 pub get_dst-mask-requires : goal.get_dst-mask-requires
 get_dst-mask-requires c =
+    let items = c.records_of-rec-items.ensures in
+    let l = rw items.len at c.loop-i-test.true in
+    let rec = items.each c.loop-i.i l in
     -- what the record is refused by is the definition's number for it
-    let by_is : c.check_shape-by.result ≡ shape_by c.args.table.now c.args.settings.count_regs c.args.list.now c.loop-i.i =
-    rw (← c.record_at-rec.ensures) c.check_shape-by.ensures in
-    let p = shape_passes _ _ _ (sym by_is ∙ c.if-by-ne0.false) in
-    rw c.record_at-rec.ensures (gens_fit_more _ max_regs _ c.requires.count_regs_bound p.gens)
+    let by_is : no_in c.check_shape-answer.result ≡ shape_by c.args.table.now c.args.settings.count_regs c.args.list.now c.loop-i.i =
+    rw (← rec) c.check_shape-answer.ensures in
+    let p = shape_passes _ _ _ (asked_ok c.in_default.is by_is) in
+    rw rec (gens_fit_more _ max_regs _ c.requires.count_regs_bound p.gens)
 
 pub loop-i-preserved : goal.loop-i-preserved
 unfolding mask_to last_below
 loop-i-preserved c =
+    let items = c.records_of-rec-items.ensures in
+    let l = rw items.len at c.loop-i-test.true in
+    let rec = items.each c.loop-i.i l in
     -- what the record is refused by is the definition's number for it
-    let by_is : c.check_shape-by.result ≡ shape_by c.args.table.now c.args.settings.count_regs c.args.list.now c.loop-i.i =
-    rw (← c.record_at-rec.ensures) c.check_shape-by.ensures in
-    let inv = c.loop-i.invariant in
-    let rec = c.record_at-rec.ensures in (
-      unrefused_more inv.0 c.loop-i-test.true by_is c.if-by-ne0.false,
+    let by_is : no_in c.check_shape-answer.result ≡ shape_by c.args.table.now c.args.settings.count_regs c.args.list.now c.loop-i.i =
+    rw (← rec) c.check_shape-answer.ensures in
+    let inv = c.loop-i.invariant in (
+      unrefused_more inv.0 l by_is (ap no_in c.in_default.is),
       rw (add-one, c.get_dst-mask.ensures, rec, inv.1),
       rw (add-one, c.later_label-later.ensures, rec, inv.2),
     )
@@ -58,14 +71,10 @@ returns c =
     let e : c.loop-i.i ≡ records list = omega (arith, inv.0) in
     let m : c.loop-i.mask ≡ mask_to list (records list) = rw e at inv.1 in
     let l : place_in c.loop-i.place ≡ last_below (label_at list a.label) (records list) = rw e at inv.2 in
-    rw (← (unrefused_ends inv.0 c.loop-i-test.false), ones_digits max_regs c.used_mask-used.result c.used_mask-used.type_inv, c.used_mask-used.ensures, m, l)
+    rw (← (unrefused_ends inv.0 (rw c.records_of-rec-items.ensures.len at c.loop-i-test.false)), ones_digits max_regs c.used_mask-used.result c.used_mask-used.type_inv, c.used_mask-used.ensures, m, l)
 
-pub overflow_cast-result : goal.overflow_cast-result
-overflow_cast-result c =
-    -- a record's index is a word
-    let index_fits : Fits w32 c.loop-i.i =
-    omega (arith, well_sized_lem _ _ c.requires.table_value, c.loop-i.invariant.0) in
-    index_fits
+pub overflow_cast-i-in-loop-i : goal.overflow_cast-i-in-loop-i
+overflow_cast-i-in-loop-i c = omega (arith, well_sized_lem _ _ c.requires.table_value, c.loop-i.invariant.0)
 
 pub overflow_cast-i : goal.overflow_cast-i
 overflow_cast-i c =

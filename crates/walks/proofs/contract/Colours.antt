@@ -1,6 +1,8 @@
 -- Colours and flags are given once: those of earlier statics stand at the start of those of later records, so that the last
 -- walk may read a record's colours off the lent slice.
 -- A list that is only added to at its end keeps each of its elements.
+use Rattle.passes.specs.declared.symbol.Loc.{Loc}
+use Rattle.std.specs.Prelude.{Option}
 use Prim.Native.Nat.{ℕ, zero, suc, ◌+◌, ◌-◌, ◌<◌, ◌≤◌}
 use mathlib.Core.Bool.{Bool, true, false, cond}
 use mathlib.Core.List.{List, [], ◌∷◌, ◌++◌, append-nil, append_assoc}
@@ -14,7 +16,6 @@ use Rattle.mir.specs.Records.{is_gen, records, record_at}
 use Rattle.mir.specs.Renaming.{statics_to, regs_to}
 use Rattle.mir.specs.Shapes.{dests, sources}
 use Rattle.mir.proofs.Passing.{ListPasses}
-use Rattle.passes.specs.declared.alloc.Held.{Held}
 use Rattle.passes.specs.Color.{Coloring, Setup, setup, choice_for, chosen, assign, after_dest, after_dests, word_for, words_for, sources_at, dests_at, colored, color_step, color_to}
 use Rattle.passes.specs.Contract.{out_at, colours_of}
 use Rattle.passes.specs.Create.{ends_of}
@@ -52,7 +53,7 @@ grows_length {xs = xs} g = rw g.is (omega (arith, length-append xs g.more))
 -- ---- colours
 
 module _ (n i : ℕ) (E : List ℕ) where
-  dest_grows : (w : ℕ) (held : Held) (st : Coloring) → Grows st.colours (after_dest n i E w held st).colours
+  dest_grows : (w : ℕ) (held : Option Loc) (st : Coloring) → Grows st.colours (after_dest n i E w held st).colours
   unfolding after_dest
   dest_grows w held st = go (is_gen w)
     where
@@ -60,13 +61,13 @@ module _ (n i : ℕ) (E : List ℕ) where
       go true = grows_by st.colours (chosen (choice_for n i held st) ∷ [])
       go false = grows_same st.colours
 
-  pub dests_grow : (ds : List (ℕ × Held)) (st : Coloring) → Grows st.colours (after_dests n i E ds st).colours
+  pub dests_grow : (ds : List (ℕ × Option Loc)) (st : Coloring) → Grows st.colours (after_dests n i E ds st).colours
   unfolding after_dests
   dests_grow [] st = grows_same st.colours
   dests_grow (d ∷ ds) st = grows_more (dest_grows d.0 d.1 st) (dests_grow ds (after_dest n i E d.0 d.1 st))
 
   -- the destinations' words, read off colours that have grown
-  pub dest_words_lem : (ds : List (ℕ × Held)) (st : Coloring) (cs : List ℕ) (next : ℕ) → next ≡ length st.colours
+  pub dest_words_lem : (ds : List (ℕ × Option Loc)) (st : Coloring) (cs : List ℕ) (next : ℕ) → next ≡ length st.colours
       → ((k : ℕ) → k < length (after_dests n i E ds st).colours → get_or cs k 0 ≡ get_or (after_dests n i E ds st).colours k 0)
       → dest_words (words ds) next cs ≡ words_for n i E ds st
   unfolding dest_words words_for word_for after_dests after_dest words

@@ -1,5 +1,6 @@
 -- The last walk: what its loop keeps, what a record may be asked for, and that the record takes it to the next.
 -- The colours are read off the lent slice, which has grown to all; the marks say what was found, and go.
+use Rattle.std.specs.Prelude.{Option}
 use Prim.Native.Nat.{ℕ, suc, ◌+◌, ◌*◌, ◌-◌, ◌/◌, ◌<◌, ◌≤◌}
 use mathlib.Core.Bool.{Bool, true, false, cond}
 use mathlib.Core.List.{List, [], ◌++◌, append-nil}
@@ -8,10 +9,9 @@ use native.Mathlib.Nat.{add-zero}
 use native.Mathlib.Numerals.{add-one}
 use native.Mathlib.Omega.{arith}
 use lib.Dec.{eqb}
-use lib.ListN.{length, get_or, drop, length-append}
+use lib.ListN.{length, get_or, drop}
 use lib.Seq.{take-append_seam, drop-append_seam}
 use Rattle.mir.specs.declared.config.Settings.{Settings}
-use Rattle.mir.specs.Inner.{currents_in}
 use Rattle.mir.specs.Questions.{gens_fit, partner_fits}
 use Rattle.mir.specs.Records.{max_regs, records, record_at, fixed_mark}
 use Rattle.mir.specs.Renaming.{gens, statics_to, regs_to}
@@ -20,19 +20,19 @@ use Rattle.mir.proofs.Passing.{ListPasses, gens_fit_more}
 use Rattle.mir.proofs.Renaming.{statics_two}
 use Rattle.passes.specs.declared.alloc.Outcome.{Outcome}
 use Rattle.passes.specs.declared.alloc.Outcome.TheVariants.{Kept, Nop, Load, Move, Save}
-use Rattle.passes.specs.Color.{Setup, setup, pairs_from, found_at, color_to}
+use Rattle.passes.specs.Color.{Setup, setup, found_at, color_to}
 use Rattle.passes.specs.Create.{ends_of}
 use Rattle.theorems.proofs.Lengths.{reduced_length, counts_add}
 use Rattle.walks.specs.declared.contract.Tally.{Tally}
 use Rattle.mir.specs.Answers.{over}
-use Rattle.passes.specs.Contract.{is_kept, outcome_number, read_set, out_at, outcome_at, reduced_to, reduced, count_to, count_of, members_of, words_of}
+use Rattle.passes.specs.declared.symbol.Loc.{Loc}
+use Rattle.passes.specs.Contract.{is_kept, outcome_number, read_set, out_at, outcome_at, reduced_to, reduced, count_to, count_of, members_of}
 use Rattle.lives.specs.Lives.{KnownIn}
 use Rattle.coloring.specs.Coloring.{was_found, founds_to, marked}
 use Rattle.walks.specs.Walks.{Colored, Contracted, Short, rewritten, outcome_in, unmarked, tallied, put_if}
 use Rattle.walks.proofs.contract.Colours.{Grows, grows_get, founds_grow, rewritten_out}
 use Rattle.coloring.proofs.Dests.{marked_length}
 use Rattle.mir.proofs.Over.{over_length, over_after}
-use Rattle.sets.proofs.Pairs.{set_members, words_length}
 use Rattle.coloring.proofs.Record.{all_statics, small, room, founds_length, found_flags}
 use Rattle.walks.proofs.contract.Marks.{seen, seen_none, seen_past, seen_all, unmark_record}
 use Rattle.lives.proofs.Registers.{Walked, passing_list, walked_known}
@@ -95,9 +95,8 @@ pub record Call : Type 0 where
   pub table : List ℕ
   pub colours : List ℕ
   pub ends : List ℕ
-  pub words : List ℕ
-  pub count : ℕ
-  pub colored : Colored settings list table colours ends words count
+  pub members : List Loc
+  pub colored : Colored settings list table colours ends members
   pub out : List ℕ
   pub room_out : length list ≤ length out
 
@@ -120,16 +119,13 @@ module _ (g : Call) where
   abbrev E0 : List ℕ
   E0 = g.ends
 
-  abbrev S : List ℕ
-  S = g.words
-
-  abbrev members : ℕ
-  members = g.count
+  abbrev members : List Loc
+  members = g.members
 
   abbrev O0 : List ℕ
   O0 = g.out
 
-  abbrev col : Colored s list table C E0 S members
+  abbrev col : Colored s list table C E0 members
   col = g.colored
 
   pub passes : ListPasses s list table
@@ -145,15 +141,9 @@ module _ (g : Call) where
   ends_in = omega (arith, ends_count, statics_two list (records list), col.ends_room)
 
   -- the set's members
-  members_are : pairs_from S 0 members ≡ read_set u
+  members_are : members ≡ read_set u
   unfolding members_of
-  members_are = set_members (members_of s list table) S col.set_start col.count
-
-  members_in_lem : members * 2 ≤ length S
-  members_in_lem =
-      let ws = words_of (members_of s list table) in
-      let e : length S ≡ length ws + length (drop (length ws) S) = ap length col.set_start ∙ length-append ws (drop (length ws) S) in
-      omega (arith, e, words_length (members_of s list table), col.count)
+  members_are = col.members_are
 
   pub contracting_first : Contracting s list table E0 O0 0 E0 O0 (record { records = 0; nops = 0; loads = 0; moves = 0; saves = 0 })
   unfolding reduced_to count_to statics_to
@@ -185,37 +175,24 @@ module _ (g : Call) where
         ∙ over_length (reduced_to (fixed_mark s) u i) O0 (omega (arith, reduced_length (fixed_mark s) u i le, kept_few, g.room_out))
 
   module _ {i : ℕ} {ends out : List ℕ} {t : Tally} (inv : Contracting s list table E0 O0 i ends out t) (l : i < length list / 8)
-      {regs : List ℕ} {statics : ℕ} (w : Walked list i regs statics) {rec : List ℕ} (e : rec ≡ record_at list i) where
+      {regs : List (Option ℕ)} {statics : ℕ} (w : Walked list i regs statics) {rec : List ℕ} (e : rec ≡ record_at list i) where
     below : i ≤ records list
     below = omega arith
 
     -- what contracting the record asks for
-    pub contract_asks : (gens_fit max_regs rec ≡ true) × ((partner_fits rec ≡ true) × ((statics + 2 ≤ length C) × ((statics + 2 ≤ length ends)
-        × (KnownIn regs (length C) × ((members * 2 ≤ length S) × (Short t any × (t.records * 8 + 8 ≤ length out)))))))
+    pub contract_asks : (gens_fit max_regs rec ≡ true) × (partner_fits rec ≡ true) × (statics + 2 ≤ length C) × (statics + 2 ≤ length ends)
+        × KnownIn regs (length C) × Short t any × (t.records * 8 + 8 ≤ length out)
     contract_asks =
         let k = statics_two list i in
         let q = counts_add (fixed_mark s) u i in
         let few = passes.sized.small in (
           rw e (gens_fit_more s.count_regs max_regs (record_at list i) passes.few (passes.each i l).shape.gens),
-          (
-            rw e (passes.each i l).partner,
-            (
-              omega (arith, w.statics_are, k, col.colours_room),
-              (
-                omega (arith, w.statics_are, k, col.ends_room, ends_same inv below),
-                (
-                  walked_known w (omega (arith, w.statics_are, k, col.colours_room)),
-                  (
-                    members_in_lem,
-                    (
-                      rw inv.tally_is (omega (arith, q, few), omega (arith, q, few), omega (arith, q, few), omega (arith, q, few), omega (arith, q, few)),
-                      rw inv.tally_is (omega (arith, q, out_same inv below, g.room_out)),
-                    ),
-                  ),
-                ),
-              ),
-            ),
-          ),
+          rw e (passes.each i l).partner,
+          omega (arith, w.statics_are, k, col.colours_room),
+          omega (arith, w.statics_are, k, col.ends_room, ends_same inv below),
+          walked_known w (omega (arith, w.statics_are, k, col.colours_room)),
+          rw inv.tally_is (omega (arith, q, few), omega (arith, q, few), omega (arith, q, few), omega (arith, q, few), omega (arith, q, few)),
+          rw inv.tally_is (omega (arith, q, out_same inv below, g.room_out)),
         )
 
     found_is : was_found (dests rec) statics ends ≡ found_at u i (color_to u i)
@@ -233,14 +210,15 @@ module _ (g : Call) where
             let g = subst (λ n. Grows (founds_to u (suc i)) (founds_to u n)) k (founds_grow u (records list - suc i) (suc i)) in
             seen_past (statics_to list i) (statics_to list i + j) (founds_to u (records list)) (omega arith) ∙ grows_get false (statics_to list i + j) g (inside j z)
 
-    written_is : rewritten (currents_in regs) statics C rec ≡ out_at u i
+    written_is : rewritten regs statics C rec ≡ out_at u i
     written_is =
         rw (w.regs_are, w.statics_are, e)
         (subst (λ cs. rewritten (regs_to list i) (statics_to list i) cs (record_at list i) ≡ out_at u i) (sym col.colours_start) (rewritten_out s list table passes C i l))
 
-    outcome_is : (fixed : ℕ) → fixed ≡ fixed_mark s → outcome_in fixed (pairs_from S 0 members) (currents_in regs) statics C ends rec ≡ outcome_at (fixed_mark s) u i
+    outcome_is : (fixed : ℕ) → fixed ≡ fixed_mark s → outcome_in fixed members regs statics C ends rec ≡ outcome_at (fixed_mark s) u i
     unfolding outcome_at
-    outcome_is fixed f = rw (f, members_are, found_is, written_is) refl
+    outcome_is fixed f =
+        ap (λ ms. outcome_in fixed ms regs statics C ends rec) members_are ∙ rw (f, found_is, written_is) refl
 
     ends_next : unmarked (dests rec) statics ends ≡ over (ends_at s list table (i + 1)) E0
     unfolding statics_to
@@ -256,9 +234,9 @@ module _ (g : Call) where
         (put_after (reduced_to (fixed_mark s) u i) (out_at u i) O0 (count_to Kept (fixed_mark s) u i * 8) (is_kept (outcome_at (fixed_mark s) u i)) (sym (reduced_length (fixed_mark s) u i below)))
 
     pub contracting_next : (fixed : ℕ) → fixed ≡ fixed_mark s → {ends' out' : List ℕ} {t' : Tally}
-        → t' ≡ tallied (outcome_in fixed (pairs_from S 0 members) (currents_in regs) statics C ends rec) t
+        → t' ≡ tallied (outcome_in fixed members regs statics C ends rec) t
         → ends' ≡ unmarked (dests rec) statics ends
-        → out' ≡ put_if (is_kept (outcome_in fixed (pairs_from S 0 members) (currents_in regs) statics C ends rec)) (t.records * 8) (rewritten (currents_in regs) statics C rec) out
+        → out' ≡ put_if (is_kept (outcome_in fixed members regs statics C ends rec)) (t.records * 8) (rewritten regs statics C rec) out
         → Contracting s list table E0 O0 (i + 1) ends' out' t'
     contracting_next fixed f p q r =
         let k = outcome_is fixed f in

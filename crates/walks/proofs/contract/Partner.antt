@@ -1,5 +1,6 @@
 -- A record in colours has the kind that it had, and its location still has room for a partner.
 -- Only register words change, and in kinds 7 and 8 they stand before the location's index.
+use Rattle.std.specs.Prelude.{Option}
 use Prim.Native.Nat.{ℕ, suc, ◌+◌, ◌<◌, ◌≤◌}
 use mathlib.Core.Bool.{Bool, true, false, cond, ◌&&◌}
 use mathlib.Core.List.{List, [], ◌∷◌, ◌++◌, append_assoc}
@@ -9,7 +10,6 @@ use native.Mathlib.Omega.{arith}
 use lib.Dec.{T, leb, ltb}
 use lib.ListN.{length, get_or, take, drop, length-append, length-map}
 use borrow.Author.Tests.{leb-true}
-use Rattle.mir.specs.declared.rename.Current.{Current}
 use Rattle.mir.specs.Questions.{partner_fits}
 use Rattle.mir.specs.Records.{word_at}
 use Rattle.mir.specs.Renaming.{one}
@@ -37,7 +37,7 @@ few_registers_lem k e =
     go true = tt
     go false = tt
 
-module _ (regs : List Current) (n : ℕ) (cs rec : List ℕ) (len : length rec ≡ 8) where
+module _ (regs : List (Option ℕ)) (n : ℕ) (cs rec : List ℕ) (len : length rec ≡ 8) where
   abbrev ws : List ℕ
   ws = dest_words (dests rec) n cs ++ source_words regs cs rec
 

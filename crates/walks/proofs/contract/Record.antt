@@ -1,13 +1,15 @@
 -- A record in colours: words written one after the other from a place on, destinations and then sources.
 -- By `sets`, a run of stores, which is the words before the place, the run, and the words after it.
+use Rattle.std.specs.Prelude.{Option}
 use Prim.Native.Nat.{ℕ, suc, ◌+◌, ◌<◌, ◌≤◌}
 use mathlib.Core.List.{List, [], ◌∷◌, ◌++◌, map, append_assoc}
 use mathlib.Core.Path.{◌≡◌, refl, sym, ap, ◌∙◌}
 use native.Mathlib.Nat.{add-zero, add-suc, suc-add}
+use native.Mathlib.Numerals.{add-one}
 use native.Mathlib.Omega.{arith}
-use lib.ListN.{length, get_or, set, take, drop, length-append, length-drop, length-map}
-use lib.Seq.{sets, sets-eq, length-take-le, drop-set-lt}
-use Rattle.mir.specs.declared.rename.Current.{Current}
+use lib.ListN.{length, get_or, set, take, drop, length-append, length-map}
+use lib.Seq.{sets, sets-eq, length-sets, drop-cons, drop-drop, drop-set-lt}
+use borrow.Rule.Slice.PartMut.{put_mid}
 use Rattle.mir.specs.declared.shape.Dests.{Dests}
 use Rattle.mir.specs.declared.shape.Shape.{Shape}
 use Rattle.mir.specs.Inner.{listed}
@@ -17,8 +19,7 @@ use Rattle.passes.specs.Color.{source_word}
 use Rattle.coloring.specs.Coloring.{source_words}
 use Rattle.walks.specs.Walks.{dest_words, rewritten}
 use Rattle.theorems.proofs.Lengths.{dests_length, sources_length}
-use Rattle.mir.proofs.Words.{window_next}
-use Rattle.colours.proofs.Mapped.{map_snoc}
+use Rattle.std.proofs.lemmas.List.{map-append, take_more, take_more_set}
 use Rattle.walks.proofs.contract.Partner.{dest_words_length}
 
 -- ---- a run of stores
@@ -36,17 +37,23 @@ module _ {ℓ} {A : Type ℓ} where
   sets_drop [] l i n h = refl
   sets_drop (a ∷ vs) l i n h = sets_drop vs (set l i a) (suc i) n (omega arith) ∙ drop-set-lt n l i a (omega arith)
 
--- words from a place on, each changed: one word more
-module _ (f : ℕ → ℕ) where
-  pub changed_next : (rec : List ℕ) (from count : ℕ) → from + count ≤ length rec → (j : ℕ) → j < count
-      → set (sets rec from (map f (take j (drop from rec)))) (from + j) (f (get_or rec (from + j) 0)) ≡ sets rec from (map f (take (j + 1) (drop from rec)))
-  changed_next rec from count h j l =
-      ap (λ k. set (sets rec from (map f (take j (drop from rec)))) (from + k) (f (get_or rec (from + j) 0))) (sym len)
-      ∙ (sets_append (map f (take j (drop from rec))) (f (get_or rec (from + j) 0) ∷ []) rec from
-      ∙ ap (sets rec from) (sym (map_snoc f (take j (drop from rec)) (get_or rec (from + j) 0)) ∙ ap (map f) (sym (window_next rec from count h j l))))
-    where
-      len : length (map f (take j (drop from rec))) ≡ j
-      len = length-map (take j (drop from rec)) f ∙ length-take-le j (drop from rec) (rw (length-drop from rec) (omega arith))
+-- words changed where they stand, those before a place being done: one word more
+module _ (f : ℕ → ℕ) (xs ws : List ℕ) (i : ℕ) (h : i < length xs) (same : length ws ≡ length xs) (done : take i ws ≡ map f (take i xs)) (left : drop i ws ≡ drop i xs) where
+  rest : get_or ws i 0 ∷ drop (suc i) ws ≡ get_or xs i 0 ∷ drop (suc i) xs
+  rest = sym (drop-cons ws i 0 (omega arith)) ∙ (left ∙ drop-cons xs i 0 h)
+
+  word : get_or ws i 0 ≡ get_or xs i 0
+  word = ap (λ l. get_or l 0 0) rest
+
+  pub changed_next : take (i + 1) (set ws i (f (get_or ws i 0))) ≡ map f (take (i + 1) xs)
+  changed_next =
+      take_more_set ws i (f (get_or ws i 0)) (omega arith)
+      ∙ (ap (λ l. l ++ f (get_or ws i 0) ∷ []) done
+      ∙ (ap (λ v. map f (take i xs) ++ f v ∷ []) word
+      ∙ (sym (map-append f (take i xs) (get_or xs i 0 ∷ [])) ∙ ap (map f) (sym (take_more xs i 0 h)))))
+
+  pub left_next : drop (i + 1) (set ws i (f (get_or ws i 0))) ≡ drop (i + 1) xs
+  left_next = drop-set-lt (i + 1) ws i (f (get_or ws i 0)) (omega arith) ∙ rw add-one (ap (drop 1) rest)
 
 -- ---- destinations
 
@@ -81,11 +88,26 @@ module _ (rec : List ℕ) (len : length rec ≡ 8) (next : ℕ) (colours : List 
       (ap (take (shape_for rec).srcs) (sets_drop (dest_words (dests rec) next colours) rec (shape_for rec).regs ((shape_for rec).regs + (shape_for rec).dsts) (omega (arith, count))))
 
   -- and when they are written too, the record is in colours
-  pub sources_written : (regs : List Current)
+  sources_set : (regs : List (Option ℕ))
       → sets out (s.regs + s.dsts) (map (source_word regs colours) (take s.srcs (drop (s.regs + s.dsts) out))) ≡ rewritten regs next colours rec
   unfolding rewritten
-  sources_written regs =
+  sources_set regs =
       ap (λ ws. sets out (s.regs + s.dsts) (map (source_word regs colours) ws)) sources_left
       ∙ rw (same, written)
       (two_runs (dest_words (dests rec) next colours) (source_words regs colours rec) rec (shape_for rec).regs (shape_for rec).dsts (shape_for rec).srcs
       count (length-map (sources rec) (source_word regs colours) ∙ sources_length rec len) (omega (arith, regs_in_record (get_or rec 0 0))))
+
+  -- the same of a write to the part of the record that the sources stand in
+  pub sources_written : (regs : List (Option ℕ)) (ws : List ℕ) (k : ℕ) → k ≡ s.srcs → ws ≡ map (source_word regs colours) (take k (drop (s.regs + s.dsts) out))
+      → put_mid (s.regs + s.dsts) k out ws ≡ rewritten regs next colours rec
+  sources_written regs ws k e w =
+      let f = source_word regs colours in
+      let whole : ws ≡ map f (take s.srcs (drop (s.regs + s.dsts) out)) = rw (sym e) w in
+      let n : length ws ≡ k = rw (whole, sources_left, e, same) (length-map (sources rec) f ∙ sources_length rec len) in
+      let size : length out ≡ 8 = rw written (length-sets rec (shape_for rec).regs (dest_words (dests rec) next colours) ∙ len) in
+      let after : drop (s.regs + s.dsts + k) out ≡ drop k (drop (s.regs + s.dsts) out) = sym (drop-drop k (s.regs + s.dsts) out) in
+      let room : s.regs + s.dsts + length ws ≤ length out = rw (n, e, size, same) (omega (arith, regs_in_record (get_or rec 0 0))) in
+      let middle : put_mid (s.regs + s.dsts) k out ws ≡ take (s.regs + s.dsts) out ++ ws ++ drop k (drop (s.regs + s.dsts) out) = simp append_assoc in
+      middle
+      ∙ (sym (sets-eq ws out (s.regs + s.dsts) room ∙ (ap (λ m. take (s.regs + s.dsts) out ++ ws ++ drop (s.regs + s.dsts + m) out) n ∙ ap (λ l. take (s.regs + s.dsts) out ++ ws ++ l) after))
+      ∙ (ap (sets out (s.regs + s.dsts)) whole ∙ sources_set regs))

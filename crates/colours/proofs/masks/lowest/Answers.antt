@@ -11,4 +11,4 @@ pub returns-then-mask-eq0 : goal.returns-then-mask-eq0
 returns-then-mask-eq0 c = rw c.if-mask-eq0.true (sym (first_absent (has_bit 0) max_regs (λ j l. has_none j)))
 
 pub returns : goal.returns
-returns c = sym (lowest_first max_regs c.args.mask (search rules) c.if-mask-eq0.false)
+returns c = sym (lowest_first c.args.mask (search rules) c.if-mask-eq0.false)

@@ -8,6 +8,3 @@ use Rattle.file.proofs.layout.read_words.Given as goal
 
 abbrev pub invariant-loop-j : goal.invariant-loop-j
 invariant-loop-j l = (l.j ≤ l.n) × (l.out ≡ over (words_in l.bytes l.from l.j) l.initial.out)
-
-abbrev pub decreases-loop-j : goal.decreases-loop-j
-decreases-loop-j l = l.n - l.j

@@ -10,6 +10,3 @@ use Rattle.file.proofs.layout.write_words.Given as goal
 
 abbrev pub invariant-loop-j : goal.invariant-loop-j
 invariant-loop-j l = (l.j ≤ length l.words) × (l.out ≡ over (bytes_of (l.first ∷ take l.j l.words)) l.initial.out)
-
-abbrev pub decreases-loop-j : goal.decreases-loop-j
-decreases-loop-j l = length l.words - l.j

@@ -1,38 +1,26 @@
 -- `file::reduce::reduce_file` meets its contract: a file that is not well formed is refused by 3, any other by its sections.
 -- By the promise of either case.
-use mathlib.Core.Path.{◌≡◌, sym, ◌∙◌}
+use mathlib.Core.Path.{sym, ◌∙◌}
 use native.Mathlib.Omega.{arith}
 use borrow.Author.Tests.{leb-true}
-use Rattle.file.specs.declared.layout.Layout.TheVariants.{Counts}
-use Rattle.file.specs.File.{layout_of}
 use Rattle.file.proofs.reduce.Promise.{words_promise, bad_promise}
 use Rattle.file.proofs.Sections.{sections}
 use Rattle.file.proofs.reduce.reduce_file.Goals as goal
 
 pub overflow_mul-room : goal.overflow_mul-room
-overflow_mul-room c =
-    -- the layout that was found
-    let layout_in : layout_of c.args.file.now ≡ Counts c.in-Counts.pairs c.in-Counts.records =
-    sym c.layout_of.ensures ∙ c.in-Counts.is in
-    omega (arith, sections layout_in)
+overflow_mul-room c = omega (arith, sections (sym c.layout_of-found.ensures ∙ c.in-Some.is))
 
 pub reduce_sections-requires : goal.reduce_sections-requires
 reduce_sections-requires c =
-    -- the layout that was found
-    let layout_in : layout_of c.args.file.now ≡ Counts c.in-Counts.pairs c.in-Counts.records =
-    sym c.layout_of.ensures ∙ c.in-Counts.is in
     record {
-      file_value = layout_in;
+      file_value = sym c.layout_of-found.ensures ∙ c.in-Some.is;
       records_in_bounds = λ r. leb-true _ _ r;
     }
 
-pub returns-in-Counts : goal.returns-in-Counts
-returns-in-Counts c =
-    -- the layout that was found
-    let layout_in : layout_of c.args.file.now ≡ Counts c.in-Counts.pairs c.in-Counts.records =
-    sym c.layout_of.ensures ∙ c.in-Counts.is in
-    let h = sections layout_in in
+pub returns : goal.returns
+returns c =
+    let h = sections (sym c.layout_of-found.ensures ∙ c.in-Some.is) in
     words_promise (rw h.records_are at c.reduce_sections.ensures.answer) (rw h.records_are at c.reduce_sections.ensures.out)
 
-pub returns-in-Bad : goal.returns-in-Bad
-returns-in-Bad c = bad_promise (sym c.layout_of.ensures ∙ c.in-Bad.is)
+pub returns-in_default : goal.returns-in_default
+returns-in_default c = rw c.of_list.ensures (bad_promise (sym c.layout_of-found.ensures ∙ c.in_default.is))

@@ -7,5 +7,5 @@ pub reduce-requires : goal.reduce-requires
 reduce-requires c =
     record {
       passing = c.requires.passing;
-      roomy = record { for_out = c.requires.list_in_bounds; for_colours = omega arith; for_ends = omega arith; for_set = omega arith };
+      roomy = record { for_out = c.requires.out_room; for_colours = omega arith; for_ends = omega arith; for_set = omega arith };
     }

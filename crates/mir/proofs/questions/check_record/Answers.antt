@@ -1,35 +1,23 @@
 -- `mir::questions::check_record` meets its contract: the questions are put in their order, and the first no gives its number.
 use mathlib.Core.Bool.{not}
-use mathlib.Core.Path.{sym, ◌∙◌, ap}
-use Rattle.mir.specs.Records.{max_regs}
+use mathlib.Core.Path.{ap}
+use Rattle.mir.proofs.Asked.{asked_ok, asked_err}
 use Rattle.mir.proofs.Folds.{answered_no, answered_yes}
-use Rattle.mir.proofs.Passing.{ShapePasses, shape_passes, shape_stops, then_last, gens_fit_more}
+use Rattle.mir.proofs.Passing.{shape_passes, shape_stops, then_last}
 use Rattle.mir.proofs.questions.check_record.Goals as goal
 
-pub returns-then-by-ne0 : goal.returns-then-by-ne0
-returns-then-by-ne0 c = shape_stops _ _ _ _ _ _ c.check_shape-by.ensures c.if-by-ne0.true
+pub returns-in_err-check_shape : goal.returns-in_err-check_shape
+returns-in_err-check_shape c =
+    let no = asked_err c.from_residual.result c.in_err-check_shape.was c.check_shape.ensures c.from_residual.ensures.1 in
+    shape_stops _ _ _ _ _ _ no.0 no.1
 
 pub returns-then-not-partner_fits : goal.returns-then-not-partner_fits
 returns-then-not-partner_fits c =
-    -- questions 5 to 7 are answered with yes
-    let passes : ShapePasses c.args.table.now c.args.count_regs c.args.rec =
-    shape_passes _ _ _ (sym c.check_shape-by.ensures ∙ c.if-by-ne0.false) in
+    let passes = shape_passes _ _ _ (asked_ok c.in_ok-check_shape.was c.check_shape.ensures) in
     rw (then_last _ _ _ _ _ passes, answered_no c.partner_fits.ensures (ap not c.if-not-partner_fits.true))
-
-pub check_sources-requires : goal.check_sources-requires
-check_sources-requires c =
-    -- questions 5 to 7 are answered with yes
-    let passes : ShapePasses c.args.table.now c.args.count_regs c.args.rec =
-    shape_passes _ _ _ (sym c.check_shape-by.ensures ∙ c.if-by-ne0.false) in
-    record {
-      regs_len = c.requires.regs_len;
-      rec_value = gens_fit_more _ max_regs _ c.requires.count_regs_le_max_regs passes.gens;
-    }
 
 pub returns : goal.returns
 returns c =
-    -- questions 5 to 7 are answered with yes
-    let passes : ShapePasses c.args.table.now c.args.count_regs c.args.rec =
-    shape_passes _ _ _ (sym c.check_shape-by.ensures ∙ c.if-by-ne0.false) in
+    let passes = shape_passes _ _ _ (asked_ok c.in_ok-check_shape.was c.check_shape.ensures) in
     rw (then_last _ _ _ _ _ passes, answered_yes c.partner_fits.ensures (ap not c.if-not-partner_fits.false))
     c.check_sources.ensures

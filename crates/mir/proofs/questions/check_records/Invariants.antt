@@ -1,9 +1,8 @@
 -- `mir::questions::check_records` meets its contract: no record passed is refused, and the first no decides.
 -- By the laws of a walk that stops at the first refusal; beside them the loop keeps the definition's registers and statics.
-use Prim.Native.Nat.{◌-◌}
 use mathlib.Core.Path.{◌≡◌}
 use Rattle.mir.specs.Branches.{past_to}
-use Rattle.mir.specs.Inner.{currents_in}
+use Rattle.mir.specs.Records.{records}
 use Rattle.mir.specs.Renaming.{regs_to, statics_to}
 use Rattle.mir.specs.Questions.{record_by}
 use Rattle.mir.proofs.Folds.{Unrefused}
@@ -11,7 +10,4 @@ use Rattle.mir.proofs.questions.check_records.Given as goal
 
 abbrev pub invariant-loop-i : goal.invariant-loop-i
 invariant-loop-i l =
-    Unrefused (record_by l.table l.count_regs l.list) l.n l.i × (currents_in l.regs ≡ regs_to l.list l.i) × (l.statics ≡ statics_to l.list l.i) × (l.past ≡ past_to l.list l.i)
-
-abbrev pub decreases-loop-i : goal.decreases-loop-i
-decreases-loop-i l = l.n - l.i
+    Unrefused (record_by l.table l.count_regs l.list) (records l.list) l.i × (l.regs ≡ regs_to l.list l.i) × (l.statics ≡ statics_to l.list l.i) × (l.past ≡ past_to l.list l.i)

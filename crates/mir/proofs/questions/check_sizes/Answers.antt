@@ -8,16 +8,17 @@ use Rattle.mir.proofs.questions.check_sizes.Goals as goal
 
 pub returns-then-count_regs-gt-MAX_REGS : goal.returns-then-count_regs-gt-MAX_REGS
 unfolding few_registers sizes_refusal
-returns-then-count_regs-gt-MAX_REGS c = simp (lt-leb _ _ c.if-count_regs-gt-MAX_REGS.true)
+returns-then-count_regs-gt-MAX_REGS c = simp (c.of_list.ensures, lt-leb _ _ c.if-count_regs-gt-MAX_REGS.true)
 
 pub returns-then-not-well_sized : goal.returns-then-not-well_sized
 unfolding few_registers sizes_refusal
-returns-then-not-well_sized c = simp (le-leb _ _ c.if-count_regs-gt-MAX_REGS.false, answered_no c.well_sized.ensures (ap not c.if-not-well_sized.true))
+returns-then-not-well_sized c = simp (c.of_list-then-not-well_sized.ensures, le-leb _ _ c.if-count_regs-gt-MAX_REGS.false, answered_no c.well_sized.ensures (ap not c.if-not-well_sized.true))
 
 pub returns-then-not-room : goal.returns-then-not-room
 unfolding few_registers sizes_refusal
 returns-then-not-room c =
     simp (
+      c.of_list-then-not-room.ensures,
       le-leb _ _ c.if-count_regs-gt-MAX_REGS.false,
       answered_yes c.well_sized.ensures (ap not c.if-not-well_sized.false),
       not-true c.args.room (ap not c.if-not-room.true),

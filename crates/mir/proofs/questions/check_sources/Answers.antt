@@ -1,25 +1,32 @@
--- `mir::questions::check_sources` meets its contract: the sources stand where the shape says.
-use native.Mathlib.Omega.{arith}
-use Rattle.mir.specs.Records.{max_regs}
+-- `mir::questions::check_sources` meets its contract: question 9 is asked of every source, and then 15.
+use mathlib.Core.Bool.{not}
+use mathlib.Core.Path.{refl, ap}
 use Rattle.mir.specs.Questions.{sources_named, sources_since}
-use Rattle.mir.specs.Shapes.{sources}
-use Rattle.mir.proofs.Renaming.{gens_fit_both}
-use Rattle.mir.proofs.Shapes.{room}
+use Rattle.mir.proofs.Asked.{asked_ok, asked_err, nine_yes, nine_no}
+use Rattle.mir.proofs.Folds.{answered_no, answered_yes}
 use Rattle.mir.proofs.questions.check_sources.Goals as goal
 
-pub check_source_words-requires : goal.check_source_words-requires
-unfolding sources
-check_source_words-requires c =
-    record {
-      regs_len = c.requires.regs_len;
-      count_bound = omega (arith, room _ c.shape_of-s.ensures);
-      rec_value = rw c.shape_of-s.ensures (gens_fit_both max_regs _ c.requires.rec_value).1;
-    }
+pub returns-in_err-check_all_named : goal.returns-in_err-check_all_named
+unfolding sources_named sources_since
+returns-in_err-check_all_named c =
+    let no = asked_err c.from_residual.result c.in_err-check_all_named.was c.check_all_named.ensures c.from_residual.ensures.1 in
+    let n = nine_no _ no.0 no.1 in
+    rw (← c.sources_of-words.ensures, n.0) n.1
+
+pub returns-then-not-all_since : goal.returns-then-not-all_since
+unfolding sources_named sources_since
+returns-then-not-all_since c =
+    rw (
+      ← c.sources_of-words.ensures,
+      nine_yes _ (asked_ok c.in_ok-check_all_named.was c.check_all_named.ensures),
+      answered_no c.all_since.ensures (ap not c.if-not-all_since.true),
+    ) refl
 
 pub returns : goal.returns
-unfolding sources_named sources_since sources
-returns c = rw (← c.shape_of-s.ensures) c.check_source_words.ensures
-
-pub overflow_add-from : goal.overflow_add-from
-overflow_add-from c =
-    omega (arith, room _ c.shape_of-s.ensures)
+unfolding sources_named sources_since
+returns c =
+    rw (
+      ← c.sources_of-words.ensures,
+      nine_yes _ (asked_ok c.in_ok-check_all_named.was c.check_all_named.ensures),
+      answered_yes c.all_since.ensures (ap not c.if-not-all_since.false),
+    ) refl

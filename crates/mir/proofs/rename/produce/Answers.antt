@@ -1,15 +1,12 @@
--- `mir::rename::produce` meets its contract: the branch's test picks the case of the definition.
-use borrow.Author.Tests.{lt-ltb, le-ltb}
-use Rattle.mir.proofs.Currents.{current_set}
+-- `mir::rename::produce` meets its contract: a store at a register, and none past them.
+-- A store past the end of a list changes nothing.
+use borrow.Author.Tests.{lt-ltb}
+use native.Mathlib.Omega.{arith}
+use Rattle.mir.proofs.Renaming.{produce_past}
 use Rattle.mir.proofs.rename.produce.Goals as goal
 
-pub returns-then-w-lt256 : goal.returns-then-w-lt256
-returns-then-w-lt256 c =
-    simp (lt-ltb _ _ c.if-w-lt256.true) (current_set c.args.regs.now c.args.w c.args.next c.requires.next_lt_any)
+pub returns-then-r-lt-MAX_REGS : goal.returns-then-r-lt-MAX_REGS
+returns-then-r-lt-MAX_REGS c = simp (lt-ltb c.args.w 256 (omega arith))
 
-pub returns-else-w-lt256 : goal.returns-else-w-lt256
-returns-else-w-lt256 c = simp (le-ltb _ _ c.if-w-lt256.false)
-
-pub bounds-regs-r : goal.bounds-regs-r
-bounds-regs-r c =
-    c.requires.w_lt_max_regs c.if-w-lt256.true
+pub returns-else-r-lt-MAX_REGS : goal.returns-else-r-lt-MAX_REGS
+returns-else-r-lt-MAX_REGS c = produce_past c.args.w c.args.next c.args.regs.now (omega arith)

@@ -1,64 +1,69 @@
 -- `questions::branches::check_branches` meets its contract: no record before a round is refused, and the first branch that is left decides.
 -- By the laws of a walk that stops at the first refusal; what was collected and not struck has no Label.
-use mathlib.Core.Path.{◌≡◌, refl, sym, ◌∙◌, subst}
+use Prim.Native.Nat.{◌+◌, ◌-◌, ◌<◌}
+use mathlib.Core.List.{[]}
+use mathlib.Core.Path.{◌≡◌, sym, ap, ◌∙◌}
 use native.Mathlib.Omega.{arith}
 use borrow.Author.Rules.{rules}
+use lib.ListN.{length, take, drop}
+use Rattle.std.proofs.lemmas.List.Quantifiers.{position-Some}
+use Rattle.mir.specs.Branches.{is_branch}
 use Rattle.mir.specs.Questions.{branch_by, branch_refusal}
 use Rattle.mir.specs.Records.{records}
-use Rattle.mir.proofs.Folds.{Unrefused, unrefused_stops, unrefused_ends}
-use Rattle.questions.proofs.Targets.{landed, unrefused}
+use Rattle.mir.proofs.Folds.{unrefused_none, unrefused_stops, unrefused_ends}
+use Rattle.questions.specs.Table.{is_left}
+use Rattle.questions.proofs.Targets.{by_none, left_is, part_at, position_none, unrefused_until}
 use Rattle.questions.proofs.branches.check_branches.Goals as goal
-
-pub collect-until-requires : goal.collect-until-requires
-collect-until-requires c =
-    record {
-      table_len = c.empty.auto.table;
-      from_bound = c.loop-from-test.true;
-      empty = c.empty.ensures;
-    }
-
-pub strike-requires : goal.strike-requires
-strike-requires c =
-    c.collect-until.auto.table ∙ c.empty.auto.table
-
-pub first_left-bad-requires : goal.first_left-bad-requires
-first_left-bad-requires c =
-    let h = c.collect-until.ensures in
-    record {
-      from_le_until = search rules;
-      until_bound = h.within;
-      landed = landed c.loop-from.invariant;
-      settled = λ i a l b. rw (c.strike.ensures _, h.held i a l b);
-    }
-
-pub returns-then-bad-until : goal.returns-then-bad-until
-unfolding branch_refusal
-returns-then-bad-until c =
-    -- the records before the first branch that is left
-    let passed : let list = c.args.list.now in Unrefused (branch_by list) (records list) c.first_left-bad.result =
-    let h = c.first_left-bad.ensures in
-    record { within = omega (arith, h.before, c.collect-until.ensures.within); passed = h.passed } in
-    let h = c.first_left-bad.ensures in
-    unrefused_stops passed (omega (arith, c.collect-until.ensures.within)) (sym (h.bad c.if-bad-until.true)) (λ e. omega arith)
-
-pub loop-from-preserved : goal.loop-from-preserved
-loop-from-preserved c =
-    -- the records before the first branch that is left
-    let passed : let list = c.args.list.now in Unrefused (branch_by list) (records list) c.first_left-bad.result =
-    let h = c.first_left-bad.ensures in
-    record { within = omega (arith, h.before, c.collect-until.ensures.within); passed = h.passed } in
-    let list = c.args.list.now in
-    let e : c.first_left-bad.result ≡ c.collect-until.result = omega (arith, c.first_left-bad.ensures.before) in
-    subst (Unrefused (branch_by list) (records list)) e passed
-
-pub returns : goal.returns
-unfolding branch_refusal
-returns c = unrefused_ends c.loop-from.invariant c.loop-from-test.false
 
 pub loop-from-init : goal.loop-from-init
 loop-from-init c =
-    unrefused c.first_branch-from.ensures
+    let items = c.records_of-records.ensures in
+    let found = position-Some is_branch c.records_of-records.result.now c.in-Some.branch [] (sym c.first_branch-first.ensures ∙ c.in-Some.is) in
+    let within : c.in-Some.branch < records c.args.list.now = rw items.len at found.0 in
+    unrefused_until c.args.list.now 0 c.in-Some.branch unrefused_none (omega arith) (omega arith)
+    (λ i a l. by_none c.args.list.now i (sym (ap is_branch (items.each i (omega arith))) ∙ found.2 i l))
 
-pub empty-requires : goal.empty-requires
-empty-requires c =
-    refl
+pub loop-from-preserved : goal.loop-from-preserved
+loop-from-preserved c =
+    let items = c.records_of-records.ensures in
+    let rows = c.records_of-records.result.now in
+    let from = c.loop-from.from in
+    let until = c.collect-until.result in
+    let part = take (until - from) (drop from rows) in
+    let none = position_none (is_left c.strike.new.table) part [] (sym c.first_left-bad.ensures ∙ c.in_default-bad.is) in
+    let long : length part ≡ until - from = search rules in
+    unrefused_until c.args.list.now from until c.loop-from.invariant (omega (arith, c.collect-until.ensures.more)) c.collect-until.ensures.within
+    (λ i a l. rw (left_is c.strike.new.table c.collect-until.ensures c.strike.ensures i a l, ← (part_at c.args.list.now rows items.each c.collect-until.ensures.within i a l), none (i - from) (omega (arith, long))))
+
+pub returns-in-Some-bad : goal.returns-in-Some-bad
+unfolding branch_refusal
+returns-in-Some-bad c =
+    let items = c.records_of-records.ensures in
+    let rows = c.records_of-records.result.now in
+    let from = c.loop-from.from in
+    let until = c.collect-until.result in
+    let part = take (until - from) (drop from rows) in
+    let found = position-Some (is_left c.strike.new.table) part c.in-Some-bad.k [] (sym c.first_left-bad.ensures ∙ c.in-Some-bad.is) in
+    let long : length part ≡ until - from = search rules in
+    let at = from + c.in-Some-bad.k in
+    let below : at < until = omega (arith, found.0, long) in
+    let shift : at - from ≡ c.in-Some-bad.k = omega arith in
+    let record_is = part_at c.args.list.now rows items.each c.collect-until.ensures.within in
+    let passed =
+    unrefused_until c.args.list.now from at c.loop-from.invariant (omega arith) (omega (arith, below, c.collect-until.ensures.within))
+    (λ i a l. rw (left_is c.strike.new.table c.collect-until.ensures c.strike.ensures i a (omega (arith, l, below)), ← (record_is i a (omega (arith, l, below))), found.2 (i - from) (omega arith))) in
+    let bad : branch_by c.args.list.now at ≡ 16 =
+    rw (left_is c.strike.new.table c.collect-until.ensures c.strike.ensures at (omega arith) below, ← (record_is at (omega arith) below), shift, found.1) in
+    rw c.of_record.ensures (unrefused_stops passed (omega (arith, below, c.collect-until.ensures.within)) (sym bad) (λ e. omega arith))
+
+pub returns : goal.returns
+unfolding branch_refusal
+returns c = unrefused_ends c.loop-from.invariant (rw c.records_of-records.ensures.len at c.loop-from-test.false)
+
+pub returns-in_default : goal.returns-in_default
+unfolding branch_refusal
+returns-in_default c =
+    let items = c.records_of-records.ensures in
+    let none = position_none is_branch c.records_of-records.result.now [] (sym c.first_branch-first.ensures ∙ c.in_default.is) in
+    unrefused_ends (unrefused_until c.args.list.now 0 (records c.args.list.now) unrefused_none (omega arith) (omega arith)
+    (λ i a l. by_none c.args.list.now i (sym (ap is_branch (items.each i l)) ∙ none i (omega (arith, l, items.len))))) (omega arith)

@@ -4,13 +4,12 @@ use Prim.Native.Nat.{ℕ, ◌+◌, ◌*◌, ◌<◌}
 use mathlib.Core.Bool.{Bool, true, false, not}
 use mathlib.Core.List.{List}
 use mathlib.Core.Logic.{⊎_elim}
-use mathlib.Core.Path.{◌≡◌, refl, ◌∙◌, ap}
+use mathlib.Core.Path.{◌≡◌, ◌∙◌, ap}
 use native.Mathlib.Decide.{dec_lt}
 use native.Mathlib.Numerals.{add-one}
 use native.Mathlib.Omega.{arith}
 use lib.ListN.{length}
-use borrow.Author.Rules.{rules}
-use borrow.Author.Tests.{not-true, not-false}
+use borrow.Author.Tests.{not-true}
 use Rattle.mir.specs.Branches.{label_of}
 use Rattle.questions.specs.Table.{slot_of, Empty, Put}
 use Rattle.mir.specs.Records.{record_at}
@@ -45,42 +44,13 @@ module _ {list table₀ table : List ℕ} {from i : ℕ} (h : Collecting list ta
             (below_suc (rw add-one at l));
       }
 
-pub loop-i-init : goal.loop-i-init
-loop-i-init c = (search rules, record { after = search rules; same_length = refl; untouched = λ e. refl; held = λ k a l b. absurd (omega arith) })
-
-pub put_branch-requires : goal.put_branch-requires
-put_branch-requires c =
-    record {
-      table_len = c.loop-i.invariant.1.same_length ∙ c.requires.table_len;
-      i_in_bounds = search rules;
-    }
-
-pub shape_of-table-then-not-put_branch : goal.shape_of-table-then-not-put_branch
-shape_of-table-then-not-put_branch c =
-    c.put_branch.auto.table ∙ c.loop-i.invariant.1.same_length
-
 pub returns-then-not-put_branch : goal.returns-then-not-put_branch
 returns-then-not-put_branch c =
     let h = c.loop-i.invariant.1 in
-    let put = c.put_branch.ensures in
+    let items = c.records_of-records.ensures in
+    let put = rw (items.each c.loop-i.i (rw items.len at c.loop-i-test.true)) at c.put_branch.ensures in
     record {
       more = stops h c.requires.empty put (not-true _ (ap not c.if-not-put_branch.true));
       within = c.loop-i.invariant.0;
       held = λ k a l b. put.kept _ (h.held k a l b);
     }
-
-pub loop-i-preserved : goal.loop-i-preserved
-loop-i-preserved c =
-    (search rules, goes_on c.loop-i.invariant.1 c.put_branch.auto.table c.put_branch.ensures (not-false _ (ap not c.if-not-put_branch.false)))
-
-pub returns : goal.returns
-returns c =
-    record {
-      more = c.requires.from_bound;
-      within = search rules;
-      held = λ k a l b. c.loop-i.invariant.1.held k a (omega arith) b;
-    }
-
-pub shape_of-table : goal.shape_of-table
-shape_of-table c =
-    c.loop-i.invariant.1.same_length

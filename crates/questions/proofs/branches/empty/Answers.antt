@@ -1,12 +1,10 @@
 -- `questions::branches::empty` meets its contract: slot 0 holds another slot's number eight times, and the other slots hold zeros.
 -- By place: what has been stored, and what is as it was.
 use Prim.Native.Nat.{ℕ, ◌/◌, ◌<◌}
-use mathlib.Core.Path.{◌≡◌, sym, ◌∙◌}
+use mathlib.Core.Path.{◌≡◌, ◌∙◌}
 use native.Mathlib.Decide.{dec_lt}
 use native.Mathlib.Omega.{arith}
-use lib.ListN.{length, get_or, set, length-set, length-replicate, get_or-replicate}
-use lib.Seq.{get_or-set_same, get_or-set_other}
-use borrow.Author.Count.{below_more}
+use lib.ListN.{length, length-replicate, get_or-replicate}
 use borrow.Author.Rules.{rules}
 use Rattle.questions.specs.Table.{slot_of}
 use Rattle.questions.proofs.branches.empty.Goals as goal
@@ -17,19 +15,6 @@ loop-p-init c =
     rw c.requires (length-replicate {A = ℕ} 4096 0) in
     (search rules, long, λ q l. absurd (omega arith), λ q a l. rw c.requires (get_or-replicate {A = ℕ} 4096 q 0 0 l))
 
-pub loop-p-preserved : goal.loop-p-preserved
-loop-p-preserved c =
-    let table = c.loop-p.table in
-    let p = c.loop-p.p in
-    let v = c.away.result in
-    let inv = c.loop-p.invariant in
-    let here : get_or (set table p v) p 0 ≡ v = get_or-set_same table p v 0 (omega arith) in (
-      search rules,
-      simp length-set inv.1,
-      below_more _ _ (λ q l. rw (get_or-set_other table p q v 0 (λ e. omega arith)) (inv.2 q l)) (rw here c.away.ensures),
-      λ q a l. get_or-set_other table p q v 0 (λ e. omega arith) ∙ inv.3 q a l,
-    )
-
 pub returns : goal.returns
 unfolding slot_of
 returns c p l t = go (dec_lt p 8)
@@ -39,9 +24,3 @@ returns c p l t = go (dec_lt p 8)
     go (no g) =
         let z : slot_of 0 ≡ p / 8 = rw (c.loop-p.invariant.3 p (omega arith) l) at t in
         omega arith
-
-pub shape_of-table : goal.shape_of-table
-shape_of-table c =
-    let long : length c.args.table.now ≡ 4096 =
-    rw c.requires (length-replicate {A = ℕ} 4096 0) in
-    c.loop-p.invariant.1 ∙ sym long

@@ -1,6 +1,6 @@
 -- `questions::branches::empty` meets its contract: slot 0 holds another slot's number eight times, and the other slots hold zeros.
 -- By place: what has been stored, and what is as it was.
-use Prim.Native.Nat.{ℕ, ◌-◌, ◌≤◌, ◌<◌}
+use Prim.Native.Nat.{ℕ, ◌≤◌, ◌<◌}
 use mathlib.Core.Path.{◌≡◌}
 use lib.ListN.{length, get_or}
 use Rattle.questions.specs.Table.{slot_of}
@@ -12,6 +12,3 @@ invariant-loop-p l =
     × (length l.table ≡ 4096)
     × ((q : ℕ) → q < l.p → slot_of (get_or l.table q 0) ≡ 0 → ⊥)
     × ((q : ℕ) → 8 ≤ q → q < 4096 → get_or l.table q 0 ≡ 0)
-
-abbrev pub decreases-loop-p : goal.decreases-loop-p
-decreases-loop-p l = 8 - l.p

@@ -3,21 +3,13 @@
 use Prim.Native.Nat.{◌+◌, ◌*◌}
 use mathlib.Core.Path.{sym}
 use native.Mathlib.Omega.{arith}
-use borrow.Author.Count.{below_more}
-use borrow.Author.Rules.{rules}
 use Rattle.questions.proofs.Targets.{holds_at, holds_none}
 use Rattle.questions.proofs.branches.is_in.Goals as goal
-
-pub loop-k-init : goal.loop-k-init
-loop-k-init c = (search rules, λ j l. absurd (omega arith))
 
 pub returns-then-table-first : goal.returns-then-table-first
 returns-then-table-first c =
     let e = c.slot-first.ensures.is in
     sym (holds_at _ _ (c.slot-first.result * 8 + c.loop-k.k) (omega arith) c.if-table-first.true)
-
-pub loop-k-preserved : goal.loop-k-preserved
-loop-k-preserved c = (search rules, below_more _ _ c.loop-k.invariant.1 c.if-table-first.false)
 
 pub returns : goal.returns
 returns c =

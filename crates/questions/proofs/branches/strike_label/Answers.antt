@@ -5,10 +5,8 @@ use mathlib.Core.Path.{sym}
 use Rattle.questions.proofs.Targets.{label_is, label_not}
 use Rattle.questions.proofs.branches.strike_label.Goals as goal
 
-pub returns-then-list-b-eq-LABEL : goal.returns-then-list-b-eq-LABEL
-returns-then-list-b-eq-LABEL c t =
-    rw (label_is c.args.list.now c.args.i c.if-list-b-eq-LABEL.true t) (c.take_out.ensures t)
+pub returns-then-rec-eq-LABEL : goal.returns-then-rec-eq-LABEL
+returns-then-rec-eq-LABEL c t = rw (label_is c.args.rec.now c.if-rec-eq-LABEL.true t) (c.take_out.ensures t)
 
-pub returns-else-list-b-eq-LABEL : goal.returns-else-list-b-eq-LABEL
-returns-else-list-b-eq-LABEL c t =
-    rw (label_not c.args.list.now c.args.i c.if-list-b-eq-LABEL.false t) (sym (and-true _))
+pub returns-else-rec-eq-LABEL : goal.returns-else-rec-eq-LABEL
+returns-else-rec-eq-LABEL c t = rw (label_not c.args.rec.now c.if-rec-eq-LABEL.false t) (sym (and-true _))

@@ -1,6 +1,6 @@
 -- `questions::branches::take_out` meets its contract: the number stands at none of the places passed, and other numbers are in as before.
 -- By the law of a store that takes a number out.
-use Prim.Native.Nat.{ℕ, ◌-◌, ◌+◌, ◌*◌, ◌≤◌, ◌<◌}
+use Prim.Native.Nat.{ℕ, ◌+◌, ◌*◌, ◌≤◌, ◌<◌}
 use mathlib.Core.List.{List}
 use mathlib.Core.Path.{◌≡◌}
 use lib.ListN.{length, get_or}
@@ -15,6 +15,3 @@ pub record Taking (number : ℕ) (table₀ table : List ℕ) (k : ℕ) : Type 0 
 
 abbrev pub invariant-loop-k : goal.invariant-loop-k
 invariant-loop-k l = (l.k ≤ 8) × Taking l.number l.initial.table l.table l.k
-
-abbrev pub decreases-loop-k : goal.decreases-loop-k
-decreases-loop-k l = 8 - l.k

@@ -4,7 +4,6 @@ use mathlib.Core.Path.{sym, ap, ◌∙◌}
 use native.Mathlib.Numerals.{add-one}
 use native.Mathlib.Omega.{arith}
 use lib.ListN.{length}
-use Rattle.mir.proofs.Renaming.{one_le}
 use Rattle.mir.specs.Inner.{listed}
 use Rattle.walks.specs.Walks.{dest_words}
 use Rattle.walks.proofs.contract.Record.{dests_room}
@@ -35,9 +34,6 @@ bounds-out-p-in-Two c =
     let room_two : c.shape_of-s.result.regs + 2 ≤ 8 =
     rw (ap length (ap listed c.in-Two.is)) at (dests_room c.args.rec c.shape_of-s.result c.dests_of.result c.shape_of-s.ensures (omega arith) c.dests_of.ensures) in
     omega (arith, room_two)
-
-pub dest_word-requires-in-Two-2 : goal.dest_word-requires-in-Two-2
-dest_word-requires-in-Two-2 c = omega (arith, one_le c.in-Two.x, c.count_static.ensures, c.requires)
 
 pub overflow_add-out : goal.overflow_add-out
 overflow_add-out c =

@@ -1,20 +1,14 @@
 -- `walks::contract::unmark` meets its contract: x is unmarked before y.
 use mathlib.Core.List.{[], ◌∷◌}
 use mathlib.Core.Path.{◌≡◌}
-use native.Mathlib.Omega.{arith}
 use Rattle.walks.specs.Walks.{unmarked}
 use Rattle.mir.specs.Shapes.{dests}
-use Rattle.mir.proofs.Renaming.{one_le}
 use Rattle.mir.proofs.Shapes.{dests_told}
 use Rattle.walks.proofs.contract.unmark.Goals as goal
 
 pub returns-in-Nothing : goal.returns-in-Nothing
 unfolding unmarked
 returns-in-Nothing c = rw (dests_told c.dests_of.ensures c.in-Nothing.is)
-
-pub unmark_static-requires-in-Two-2 : goal.unmark_static-requires-in-Two-2
-unmark_static-requires-in-Two-2 c =
-    omega (arith, one_le c.in-Two.x, c.count_static.ensures, c.unmark_static-in-Two.auto.ends, c.requires)
 
 pub returns-in-One : goal.returns-in-One
 unfolding unmarked

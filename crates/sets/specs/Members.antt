@@ -1,0 +1,16 @@
+-- Inner: the read set as the list of its members, in joining order.
+use Rattle.std.specs.Prelude.{ℕ, ◌*◌, ◌≤◌, List, ◌≡◌, length}
+use Rattle.mir.specs.Answers.{over}
+use Rattle.passes.specs.declared.symbol.Loc.{Loc}
+use Rattle.passes.specs.Color.{pairs_from}
+use Rattle.passes.specs.Contract.{words_of}
+use Rattle.sets.specs.declared.ReadSet.{ReadSet}
+
+abbrev pub members_in : ReadSet → List Loc
+members_in s = pairs_from s.words.now 0 s.len
+
+-- the set has these members, written over what its words held before
+pub record SetHolds (s : ReadSet) (ms : List Loc) (before : List ℕ) : Type 0 where
+  pub members : members_in s ≡ ms
+  pub words : s.words.now ≡ over (words_of ms) before
+  pub fits : length ms * 2 ≤ length before
