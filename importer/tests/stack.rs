@@ -131,7 +131,9 @@ fn a_refusal_takes_little() {
     for number in [9, 15, 16] {
         for records in [3, 4_096, 65_536] {
             let (what, list) = (format!("refused by {number}"), refused(records, number));
-            let word = optimize(&what, REFUSED / 2, REFUSED, &list);
+            // question 16 has a table on the stack, and is put once all others have passed
+            let least = if number == 16 { REFUSED / 2 } else { 0 };
+            let word = optimize(&what, least, REFUSED, &list);
             assert_eq!(word, (number << 32) | (records as u64 - 1));
         }
     }

@@ -32,8 +32,8 @@ pub slices_same : {a : List Alloc} {c e : List ℕ} (σ : Slices) → a ≡ σ.a
 slices_same σ p q r = λ i. record { allocs = p i; colours = q i; ends = r i }
 
 -- colours that the masks tell of stand for themselves
-pub standing : {n i : ℕ} {a : Allocs} → Masked n i a.masks (allocs_in a.lives a.locs) → Stands n i a (allocs_in a.lives a.locs)
-standing h = record { same = refl; masked = h }
+pub standing : {i : ℕ} {a : Allocs} → Masked a.count i a.masks (allocs_in a.lives a.locs) → Stands a.count i a (allocs_in a.lives a.locs)
+standing h = record { count = refl; same = refl; masked = h }
 
 -- what is lent is the slices that it is said to be, and the masks tell of what is lent
 module _ {n i : ℕ} {σ : Slices} {a : Allocs} {cs es : List ℕ} (h : SlicesAre n i σ a cs es) where

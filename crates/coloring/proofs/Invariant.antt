@@ -1,6 +1,5 @@
 -- The third walk: what its loop keeps, what a record may be asked for, and that the record takes it to the next.
 -- The lent slices are those of the definitions at i; a record takes them on, and the members grow by what it reads.
-use Rattle.std.specs.Prelude.{Option}
 use Prim.Native.Nat.{ℕ, suc, ◌+◌, ◌-◌, ◌*◌, ◌/◌, ◌<◌, ◌≤◌}
 use mathlib.Core.Bool.{Bool, true}
 use mathlib.Core.List.{List}
@@ -11,35 +10,30 @@ use lib.ListN.{length}
 use Rattle.mir.specs.declared.config.Settings.{Settings}
 use Rattle.mir.specs.Questions.{fields_fit, partner_fits}
 use Rattle.mir.specs.Records.{max_regs, records, record_at}
-use Rattle.mir.specs.Renaming.{statics_to, regs_to}
+use Rattle.mir.specs.Renaming.{regs_to}
 use Rattle.mir.specs.Shapes.{any, dests}
 use Rattle.mir.proofs.Passing.{ListPasses}
-use Rattle.mir.proofs.Renaming.{statics_two}
+use Rattle.mir.specs.declared.rename.Renaming.{Renaming}
+use Rattle.mir.proofs.Renaming.{Walked, statics_two}
 use Rattle.passes.specs.Color.{setup, loc_of, joined, found_at, color_to}
 use Rattle.passes.specs.Create.{ends_of}
 use Rattle.passes.specs.Machine.{Passing}
+use Rattle.theorems.proofs.Create.{ends_fit}
 use Rattle.theorems.proofs.ReadSet.{reads_at, members_next}
 use Rattle.theorems.proofs.Members.{few_members}
 use Rattle.theorems.proofs.NeverEmpty.{ready_to}
-use Rattle.mir.specs.Answers.{over}
 use Rattle.colours.specs.declared.allocs.Allocs.{Allocs}
 use Rattle.colours.specs.Masks.{Expired}
 use Rattle.colours.proofs.Expiring.{expired_stands}
-use Rattle.lives.specs.Lives.{KnownIn}
-use Rattle.coloring.specs.Coloring.{Slices, slices, slices_in, SlicesAre, Ready, Coloured, source_words, wanted_by, record_step, was_found, reads_of, founds_to, marked}
+use Rattle.coloring.specs.Coloring.{slices_in, SlicesAre, Ready, Coloured, source_words, wanted_by, record_step, was_found, reads_of, founds_to, marked}
 use Rattle.coloring.proofs.Dests.{marked_length, lent_are}
 use Rattle.mir.proofs.Over.{over_length}
 use Rattle.sets.specs.declared.ReadSet.{ReadSet}
 use Rattle.sets.specs.Members.{members_in, SetHolds}
 use Rattle.sets.proofs.Pairs.{holds_length, holds_more, joined_grows}
-use Rattle.coloring.proofs.Record.{all_statics, sources_fit, sources_due, record_ready, record_step_lem, found_after}
+use Rattle.coloring.proofs.Record.{slices_at, sources_fit, sources_due, record_ready, record_step_lem, found_after}
 use Rattle.coloring.proofs.Sources.{space_below, coloured_in}
-use Rattle.lives.proofs.Registers.{Walked, passing_list, walked_known, few_words, few_statics}
-
--- the lent slices before record i
-abbrev pub slices_at : Settings → List ℕ → List ℕ → List ℕ → List ℕ → ℕ → Slices
-slices_at s list table C0 E0 i =
-    slices (color_to (setup s list table) i).allocs (over (color_to (setup s list table) i).colours C0) (over (marked (founds_to (setup s list table) i) (ends_of list)) E0)
+use Rattle.lives.proofs.Registers.{passing_list, few_words, few_statics}
 
 -- what is lent to the walk's steps
 pub record State : Type 0 where
@@ -55,34 +49,28 @@ abbrev pub Holds : Settings → List ℕ → List ℕ → List ℕ → List ℕ 
 Holds s list table C0 E0 i j st = SlicesAre s.count_regs j (slices_at s list table C0 E0 i) st.allocs st.colours st.ends
 
 -- what the walk is called with: a list that passes, and slices that have room
-pub record Called (s : Settings) (list table C0 E0 S0 : List ℕ) : Type 0 where
+pub record Called (s : Settings) (list table C0 E0 : List ℕ) (S0 : ReadSet) : Type 0 where
   pub passing : Passing s list table
   pub colours_room : records list * 2 ≤ length C0
   pub ends_room : records list * 2 ≤ length E0
-  pub words_room : records list * 4 + length table ≤ length S0
+  pub words_room : records list * 4 + length table ≤ length S0.words.now
 
 -- between two records the masks tell of the colours at the one before
-pub record Colouring (s : Settings) (list table C0 E0 S0 : List ℕ) (i : ℕ) (st : State) (set : ReadSet) (regs : List (Option ℕ)) (statics : ℕ) : Type 0 where
+pub record Colouring (s : Settings) (list table C0 E0 : List ℕ) (S0 : ReadSet) (i : ℕ) (st : State) (set : ReadSet) (r : Renaming) : Type 0 where
   pub called : Called s list table C0 E0 S0
-  pub walked : Walked list i regs statics
+  pub walked : Walked list i r
   pub holds : Holds s list table C0 E0 i (i - 1) st
   pub set_holds : SetHolds set (color_to (setup s list table) i).members S0
 
-module _ {s : Settings} {list table C0 E0 S0 : List ℕ} where
+module _ {s : Settings} {list table C0 E0 : List ℕ} {S0 : ReadSet} where
   module _ (g : Called s list table C0 E0 S0) where
     passes : ListPasses s list table
     passes = passing_list s list table g.passing
 
     wide : length (ends_of list) ≤ length C0
-    wide = omega (arith, ends_all, statics_two list (records list), g.colours_room)
-      where
-        ends_all : length (ends_of list) ≡ statics_to list (records list)
-        ends_all = all_statics s list table passes (ends_of list) (ends_of list) (omega arith)
+    wide = ends_fit list g.colours_room
 
-    ends_fit : length (ends_of list) ≤ length E0
-    ends_fit = omega (arith, all_statics s list table passes C0 E0 wide, statics_two list (records list), g.ends_room)
-
-  module _ {i : ℕ} {st : State} {set : ReadSet} {regs : List (Option ℕ)} {statics : ℕ} (inv : Colouring s list table C0 E0 S0 i st set regs statics) where
+  module _ {i : ℕ} {st : State} {set : ReadSet} {r : Renaming} (inv : Colouring s list table C0 E0 S0 i st set r) where
     pub colours_same : i ≤ records list → length st.colours ≡ length C0
     colours_same le =
         ap length inv.holds.colours
@@ -91,7 +79,7 @@ module _ {s : Settings} {list table C0 E0 S0 : List ℕ} where
     pub ends_same : length st.ends ≡ length E0
     ends_same =
         ap length inv.holds.ends
-        ∙ over_length (marked (founds_to (setup s list table) i) (ends_of list)) E0 (rw (marked_length (founds_to (setup s list table) i) (ends_of list)) (ends_fit inv.called))
+        ∙ over_length (marked (founds_to (setup s list table) i) (ends_of list)) E0 (rw (marked_length (founds_to (setup s list table) i) (ends_of list)) (ends_fit list inv.called.ends_room))
 
     module _ (l : i < length list / 8) where
       le : i ≤ records list
@@ -101,17 +89,14 @@ module _ {s : Settings} {list table C0 E0 S0 : List ℕ} where
       pub words_few : length list ≤ 524288
       words_few = few_words list (s, table, inv.called.passing) i l
 
-      pub statics_few : statics + 2 ≤ (length list / 8) * 2
+      pub statics_few : r.statics + 2 ≤ (length list / 8) * 2
       statics_few = few_statics list (s, table, inv.called.passing) i l inv.walked
 
-      pub colours_two : statics + 2 ≤ length st.colours
+      pub colours_two : r.statics + 2 ≤ length st.colours
       colours_two = rw (colours_same le) (omega (arith, statics_few, inv.called.colours_room))
 
-      pub ends_two : statics + 2 ≤ length st.ends
+      pub ends_two : r.statics + 2 ≤ length st.ends
       ends_two = rw ends_same (omega (arith, statics_few, inv.called.ends_room))
-
-      pub known : KnownIn regs (length st.colours)
-      known = walked_known inv.walked (omega (arith, colours_two))
 
       module _ {rec : List ℕ} (e : rec ≡ record_at list i) where
         -- what the record's own words are
@@ -125,17 +110,17 @@ module _ {s : Settings} {list table C0 E0 S0 : List ℕ} where
         record_space = space_below table rec record_fields
 
         -- the sources' colours are those of the definitions
-        words_are : source_words regs st.colours rec ≡ source_words (regs_to list i) (slices_at s list table C0 E0 i).colours (record_at list i)
+        words_are : source_words r.regs st.colours rec ≡ source_words (regs_to list i) (slices_at s list table C0 E0 i).colours (record_at list i)
         words_are = rw (inv.holds.colours, inv.walked.regs_are, e) refl
 
-        pub coloured : Coloured s.count_regs (source_words regs st.colours rec)
+        pub coloured : Coloured s.count_regs (source_words r.regs st.colours rec)
         coloured = rw words_are (sources_fit s list table (passes inv.called) C0 E0 (wide inv.called) i l)
 
-        pub coloured_most : Coloured max_regs (source_words regs st.colours rec)
+        pub coloured_most : Coloured max_regs (source_words r.regs st.colours rec)
         coloured_most j z k = omega (arith, coloured j z k, (passes inv.called).few)
 
         -- what making colours free gives: the masks tell of the colours at this record
-        pub expire_gives : {freed : Allocs} → Expired st.allocs (source_words regs st.colours rec) i freed → Holds s list table C0 E0 i i (state freed st.colours st.ends)
+        pub expire_gives : {freed : Allocs} → Expired st.allocs (source_words r.regs st.colours rec) i freed → Holds s list table C0 E0 i i (state freed st.colours st.ends)
         expire_gives x =
             record {
               allocs = expired_stands inv.holds.allocs x (omega arith) (rw words_are (sources_due s list table (passes inv.called) C0 E0 (wide inv.called) i l)) (coloured_in s.count_regs _ coloured);
@@ -145,18 +130,18 @@ module _ {s : Settings} {list table C0 E0 S0 : List ℕ} where
 
         -- what colouring the record asks for, and what it gives: what is lent after it, and that the masks tell of the colours there
         module _ {freed : Allocs} (h : Holds s list table C0 E0 i i (state freed st.colours st.ends)) where
-          pub color_ready : Ready s.count_regs i statics (wanted_by regs rec (slices_in freed st.colours st.ends)) (slices_in freed st.colours st.ends)
+          pub color_ready : Ready s.count_regs i r.statics (wanted_by r.regs rec (slices_in freed st.colours st.ends)) (slices_in freed st.colours st.ends)
           color_ready =
-              subst (λ σ. Ready s.count_regs i statics (wanted_by regs rec σ) σ) (sym (lent_are h))
+              subst (λ σ. Ready s.count_regs i r.statics (wanted_by r.regs rec σ) σ) (sym (lent_are h))
               (rw (inv.walked.regs_are, inv.walked.statics_are, e) (record_ready s list table (passes inv.called) C0 E0 (wide inv.called) i l))
 
-          pub color_gives : {after : Allocs} {cs es : List ℕ} → SlicesAre s.count_regs i (record_step s.count_regs i statics regs rec (slices_in freed st.colours st.ends)) after cs es
+          pub color_gives : {after : Allocs} {cs es : List ℕ} → SlicesAre s.count_regs i (record_step s.count_regs i r.statics r.regs rec (slices_in freed st.colours st.ends)) after cs es
               → Holds s list table C0 E0 (i + 1) i (state after cs es)
           color_gives {after} {cs} {es} =
               subst (λ σ. SlicesAre s.count_regs i σ after cs es)
               (rw (lent_are h, inv.walked.regs_are, inv.walked.statics_are, e) (record_step_lem s list table (passes inv.called) C0 E0 (wide inv.called) i l))
 
-        pub found_gives : {found : Bool} {after : State} → found ≡ was_found (dests rec) statics after.ends → Holds s list table C0 E0 (i + 1) i after → found ≡ found_at (setup s list table) i (color_to (setup s list table) i)
+        pub found_gives : {found : Bool} {after : State} → found ≡ was_found (dests rec) r.statics after.ends → Holds s list table C0 E0 (i + 1) i after → found ≡ found_at (setup s list table) i (color_to (setup s list table) i)
         found_gives f h = f ∙ rw (h.ends, inv.walked.statics_are, e) (found_after s list table (passes inv.called) C0 E0 (wide inv.called) i l)
 
         module _ {found : Bool} (f : found ≡ found_at (setup s list table) i (color_to (setup s list table) i)) where
@@ -169,6 +154,6 @@ module _ {s : Settings} {list table C0 E0 S0 : List ℕ} where
           read_room =
               rw (reads_are, holds_length inv.set_holds, add-one i) (omega (arith, few_members s list table (passes inv.called) (suc i) (omega arith), inv.called.words_room))
 
-          pub read_gives : {set' : ReadSet} → SetHolds set' (joined (members_in set) (reads_of table rec found)) set.words.now → SetHolds set' (color_to (setup s list table) (i + 1)).members S0
+          pub read_gives : {set' : ReadSet} → SetHolds set' (joined (members_in set) (reads_of table rec found)) set → SetHolds set' (color_to (setup s list table) (i + 1)).members S0
           read_gives h =
               holds_more inv.set_holds (rw (← reads_are, inv.set_holds.members) (joined_grows (color_to (setup s list table) i).members (reads_of table rec found))) (rw reads_are at h)

@@ -22,7 +22,7 @@ use Rattle.mir.specs.Shapes.{shape_for, dests, sources}
 use Rattle.mir.proofs.Passing.{ListPasses}
 use Rattle.passes.specs.Color.{Coloring, Setup, setup, colour_at, colour_of, source_word, held_by, want_x, want_y, wanted, update_allocs, loc_of, is_found, choice_for, after_dest, sources_at, dests_at, found_all, found_at, color_step, color_to}
 use Rattle.passes.specs.Create.{ends_of}
-use Rattle.theorems.proofs.Create.{In, names_to, ends_length, ends_below, statics_mono}
+use Rattle.theorems.proofs.Create.{In, names_to, ends_length, ends_below, statics_mono, ends_count}
 use Rattle.theorems.proofs.Due.{due}
 use Rattle.theorems.proofs.NeverEmpty.{source_below, ready_to, choices_of, wanted_words}
 use Rattle.theorems.proofs.Pool.{words}
@@ -68,21 +68,18 @@ map_below f n (w ∷ ws) k h zero z l = go (is_gen w) refl
     go true e = h w (inl refl) e
     go false e = absurd (omega (arith, k w e, ltb-false w 256 e, l))
 
+-- the lent slices before record i
+abbrev pub slices_at : Settings → List ℕ → List ℕ → List ℕ → List ℕ → ℕ → Slices
+slices_at s list table C0 E0 i =
+    slices (color_to (setup s list table) i).allocs (over (color_to (setup s list table) i).colours C0) (over (marked (founds_to (setup s list table) i) (ends_of list)) E0)
+
 module _ (s : Settings) (list table : List ℕ) (passes : ListPasses s list table) (C0 E0 : List ℕ) (wide : length (ends_of list) ≤ length C0) where
   u : Setup
   u = setup s list table
 
-  pub all_statics : length (ends_of list) ≡ statics_to list (records list)
-  unfolding ends_of
-  all_statics = ends_length list (records list)
-
   pub small : (k : ℕ) → k < length (ends_of list) → get_or (ends_of list) k 0 < 65536
   unfolding ends_of
   small k h = omega (arith, ends_below list (records list) k (rw (ends_length list (records list)) at h), passes.sized.small)
-
-  -- the slices before record i
-  abbrev pub slices_to : ℕ → Slices
-  slices_to i = slices (color_to (setup s list table) i).allocs (over (color_to (setup s list table) i).colours C0) (over (marked (founds_to (setup s list table) i) (ends_of list)) E0)
 
   pub founds_length : (i : ℕ) → length (founds_to (setup s list table) i) ≡ statics_to list i
   unfolding founds_to statics_to
@@ -107,7 +104,7 @@ module _ (s : Settings) (list table : List ℕ) (passes : ListPasses s list tabl
     room =
         let e : (records list - suc i) + suc i ≡ records list = omega arith in
         let m = statics_mono list (records list - suc i) (suc i) in
-        rw all_statics (rw e at m)
+        rw (ends_count list) (rw e at m)
 
     -- the sources' colours
     pub same_sources : source_words (regs_to list i) (over (color_to (setup s list table) i).colours C0) (record_at list i) ≡ sources_at (setup s list table) i (color_to (setup s list table) i)
@@ -128,7 +125,7 @@ module _ (s : Settings) (list table : List ℕ) (passes : ListPasses s list tabl
     sources_due = rw same_sources (due s list table passes i l)
 
     -- what the destinations are wanted with
-    same_wanted : wanted_by (regs_to list i) (record_at list i) (slices_to i) ≡ dests_at (setup s list table) i (color_to (setup s list table) i)
+    same_wanted : wanted_by (regs_to list i) (record_at list i) (slices_at s list table C0 E0 i) ≡ dests_at (setup s list table) i (color_to (setup s list table) i)
     same_wanted =
         let rec = record_at list i in
         ap (λ ws. wanted (dests rec) (want_x (shape_for rec).action (loc_of rec) (held_by (color_to (setup s list table) i).allocs (get_or ws 0 0))) (want_y (shape_for rec).action (loc_of rec))) same_sources
@@ -136,22 +133,22 @@ module _ (s : Settings) (list table : List ℕ) (passes : ListPasses s list tabl
     words_room : statics_to list i + gens (words (dests_at (setup s list table) i (color_to (setup s list table) i))) ≤ length (ends_of list)
     words_room = rw (wanted_words (dests (record_at list i)) _ _) room
 
-    pub record_ready : Ready s.count_regs i (statics_to list i) (wanted_by (regs_to list i) (record_at list i) (slices_to i)) (slices_to i)
+    pub record_ready : Ready s.count_regs i (statics_to list i) (wanted_by (regs_to list i) (record_at list i) (slices_at s list table C0 E0 i)) (slices_at s list table C0 E0 i)
     unfolding st u
     record_ready =
         rw same_wanted
         (ready_at s.count_regs i (ends_of list) C0 E0 wide small (dests_at u i st) st (founds_to u i) (statics_to list i) (sym colours_length) (sym (founds_length i)) words_room (choices_of s list table passes i l).pools)
 
-    pub record_step_lem : record_step s.count_regs i (statics_to list i) (regs_to list i) (record_at list i) (slices_to i) ≡ slices_to (i + 1)
+    pub record_step_lem : record_step s.count_regs i (statics_to list i) (regs_to list i) (record_at list i) (slices_at s list table C0 E0 i) ≡ slices_at s list table C0 E0 (i + 1)
     unfolding record_step color_to color_step founds_to st u
     record_step_lem =
         let rec = record_at list i in
         let n = s.count_regs in
-        let d = ap (λ ds. dest_steps n i (statics_to list i) ds (slices_to i)) same_wanted
+        let d = ap (λ ds. dest_steps n i (statics_to list i) ds (slices_at s list table C0 E0 i)) same_wanted
         ∙ dests_at_lem n i (ends_of list) C0 E0 wide small (dests_at u i st) st (founds_to u i) (statics_to list i) (sym colours_length) (sym (founds_length i)) words_room in
         rw (add-one i)
-        (slices_same (slices_to (suc i))
-        (ap (λ ws. update_allocs (shape_for rec).action (loc_of rec) (get_or ws 0 0) (get_or ws 1 0) (dest_steps n i (statics_to list i) (wanted_by (regs_to list i) rec (slices_to i)) (slices_to i)).allocs) same_sources
+        (slices_same (slices_at s list table C0 E0 (suc i))
+        (ap (λ ws. update_allocs (shape_for rec).action (loc_of rec) (get_or ws 0 0) (get_or ws 1 0) (dest_steps n i (statics_to list i) (wanted_by (regs_to list i) rec (slices_at s list table C0 E0 i)) (slices_at s list table C0 E0 i)).allocs) same_sources
         ∙ ap (λ (σ : Slices). update_allocs (shape_for rec).action (loc_of rec) (get_or (sources_at u i st) 0 0) (get_or (sources_at u i st) 1 0) σ.allocs) d)
         (ap (λ (σ : Slices). σ.colours) d) (ap (λ (σ : Slices). σ.ends) d))
 
@@ -199,5 +196,5 @@ module _ (s : Settings) (list table : List ℕ) (passes : ListPasses s list tabl
       (words_room s list table passes C0 E0 wide i l)
       (λ j z. e j (rw (wanted_words (dests (record_at list i))) at z) ∙ rw (← (founds_length s list table passes C0 E0 wide i)) (get_or-append-add (founds_to (setup s list table) i) _ j false))
 
-  pub found_after : was_found (dests (record_at list i)) (statics_to list i) (slices_to s list table passes C0 E0 wide (i + 1)).ends ≡ found_at (setup s list table) i (color_to (setup s list table) i)
+  pub found_after : was_found (dests (record_at list i)) (statics_to list i) (slices_at s list table C0 E0 (i + 1)).ends ≡ found_at (setup s list table) i (color_to (setup s list table) i)
   found_after = rw (add-one i) (found_flags (founds_to (setup s list table) (suc i)) (λ j z. refl))

@@ -13,13 +13,13 @@ use Rattle.mir.specs.Records.{is_gen, word_at}
 use Rattle.mir.proofs.Clash.{clash}
 use Rattle.mir.specs.Shapes.{any, shape_of, shape_for, sources}
 use Rattle.mir.proofs.Passing.{word_fits_lem}
-use Rattle.mir.proofs.Shapes.{each_from, rule, is_complex, complex_kind, regs_in_record, loc_in_record}
+use Rattle.mir.proofs.Words.{window_at}
+use Rattle.mir.proofs.Shapes.{each_from, rule, is_complex, complex_kind, loc_in_record, regs_in_record}
 use Rattle.passes.specs.Color.{loc_of}
 use Rattle.theorems.proofs.Lengths.{sources_length}
 use Rattle.colours.specs.Colours.{sources_used}
 use Rattle.colours.specs.Masks.{is_in}
 use Rattle.coloring.specs.Coloring.{Coloured}
-use Rattle.mir.proofs.Words.{window_at}
 
 module _ (rec : List ℕ) (len : length rec ≡ 8) where
   module _ (f : ℕ → ℕ) (j : ℕ) where

@@ -5,7 +5,6 @@ ghost use Rattle.std.specs.Prelude.{ℕ, ◌+◌, ◌*◌, ◌<◌, ◌≤◌, t
 ghost use Rattle.mir.specs.Answers.{over};
 ghost use Rattle.colours.specs.Colours.{nothing, held_in, allocs_in, Stands, sources_used};
 ghost use Rattle.colours.specs.Masks.{Masked, Expired};
-ghost use Rattle.lives.specs.Lives.{KnownIn};
 ghost use Rattle.sets.specs.Members.{members_in, SetHolds};
 ghost use Rattle.coloring.specs.Coloring.{slices_in, SlicesAre, dest_step, dest_steps, ReadyFor, Ready, Coloured, source_words, wanted_by, record_step, was_found, reads_of, marked_ends};
 ghost use Rattle.mir.specs.Questions.{fields_fit, partner_fits};
@@ -21,9 +20,9 @@ ghost use Rattle.passes.specs.Machine.{Passing};
 
 use colours::allocs::{Allocs, partner};
 use colours::pool::{NOTHING, word_of};
-use mir::config::{MAX_REGS, Settings};
-use mir::record::records_of;
-use mir::rename::{count_static, count_statics, rename, static_of};
+use mir::config::Settings;
+use mir::record::{Record, records_of};
+use mir::rename::{Renaming, count_static, static_of};
 use mir::shape::{Action, Dests, dests_of, shape_of, sources_of};
 use passes::alloc::Choice;
 use passes::symbol::Loc;
@@ -33,47 +32,39 @@ use sets::ReadSet;
 // mark stands in the lent word, since nothing else is lent that has a place for each static.
 pub const FOUND: u32 = 65_536;
 
-// A register word in colours: the colour of the static that a Gen source holds.
-pub fn deallocate(regs: &[Option<u32>; MAX_REGS], w: u32, colours: &[u32]) -> u32
-    requires { KnownIn regs.now (length colours.now) }
-    ensures { result ≡ source_word regs.now colours.now w }
+// A register word in colours: the colour of the static that a Gen source holds, or 0, as the definitions have it, where it holds none.
+pub fn deallocate(renaming: &Renaming, w: u32, colours: &[u32]) -> u32
+    requires { renaming.now.statics ≤ length colours.now }
+    ensures { result ≡ source_word renaming.now.regs colours.now w }
 {
     if 256 <= w {
         return w;
     }
-    let current = static_of(regs, w);
-    let Some(s) = current else {
+    let Some(s) = static_of(&renaming.regs, w) else {
         return 0;
     };
-    let k = s as usize;
-    colours[k]
+    colours[s as usize]
 }
 
-// Source `j` of a record in colours, or 0 where it has none.
-fn source_at(regs: &[Option<u32>; MAX_REGS], rec: [u32; 8], j: usize, colours: &[u32]) -> u32
-    requires { KnownIn regs.now (length colours.now) }
-    ensures { result ≡ get_or (source_words regs.now colours.now rec) j 0 }
+// Source `j` of a record in colours, or 0 where it has none, as the definitions have it: nothing is made of it then.
+fn source_at(renaming: &Renaming, rec: &Record, j: usize, colours: &[u32]) -> u32
+    requires { renaming.now.statics ≤ length colours.now }
+    ensures { result ≡ get_or (source_words renaming.now.regs colours.now rec.now) j 0 }
 {
-    match sources_of(&rec).get(j) {
-        Some(&w) => deallocate(regs, w, colours),
+    match sources_of(rec).get(j) {
+        Some(&w) => deallocate(renaming, w, colours),
         None => 0,
     }
 }
 
 // The colours of a record's sources become free at instruction `i`, if their lives end there.
-fn expire_sources(
-    allocs: &mut Allocs,
-    regs: &[Option<u32>; MAX_REGS],
-    rec: [u32; 8],
-    i: u32,
-    colours: &[u32],
-)
-    requires known_in { KnownIn regs.now (length colours.now) }
-    requires coloured { Coloured max_regs (source_words regs.now colours.now rec) }
-    ensures { Expired allocs.old (source_words regs.now colours.now rec) i allocs.new }
+fn expire_sources(allocs: &mut Allocs, renaming: &Renaming, rec: &Record, i: u32, colours: &[u32])
+    requires known_in { renaming.now.statics ≤ length colours.now }
+    requires coloured { Coloured max_regs (source_words renaming.now.regs colours.now rec.now) }
+    ensures { Expired allocs.old (source_words renaming.now.regs colours.now rec.now) i allocs.new }
 {
-    for &w in sources_of(&rec) {
-        allocs.expire(deallocate(regs, w, colours), i);
+    for &w in sources_of(rec) {
+        allocs.expire(deallocate(renaming, w, colours), i);
     }
 }
 
@@ -88,7 +79,7 @@ fn held_by(allocs: &Allocs, w: u32) -> u64
     allocs.locs[w as usize]
 }
 
-// What x is wanted with; the first source's colour is `x`.
+// What x is wanted with, as a word, which is compared with the colours' (`NOTHING`); the first source's colour is `x`.
 fn want_x(action: Action, l: Loc, x: u32, allocs: &Allocs) -> u64
     requires space_lt_any { l.space < any }
     requires x_lt_max_regs { 0 < sources_used action → x < 256 → x < max_regs }
@@ -114,8 +105,8 @@ fn want_y(action: Action, l: Loc) -> u64
 }
 
 // A record's location, or its first two words where it has none.
-pub fn loc_of(rec: [u32; 8]) -> Loc
-    ensures { result ≡ loc_of rec }
+pub fn loc_of(rec: &Record) -> Loc
+    ensures { result ≡ loc_of rec.now }
 {
     let s = shape_of(rec[0]);
     let p = s.loc;
@@ -130,24 +121,22 @@ fn color_dest(
     allocs: &mut Allocs,
     w: u32,
     want: u64,
-    n: usize,
     i: u32,
     next: usize,
     colours: &mut [u32],
     ends: &mut [u32],
 )
-    requires masked { Masked n i allocs.old.masks (allocs_in allocs.old.lives allocs.old.locs) }
+    requires masked { Masked allocs.old.count i allocs.old.masks (allocs_in allocs.old.lives allocs.old.locs) }
     requires colours_room { next < length colours.old }
     requires ends_room { next < length ends.old }
-    requires ready_for { ReadyFor n i next w (held_in want) (slices_in allocs.old colours.old ends.old) }
-    ensures { SlicesAre n i (dest_step n i next w (held_in want) (slices_in allocs.old colours.old ends.old)) allocs.new colours.new ends.new }
+    requires ready_for { ReadyFor allocs.old.count i next w (held_in want) (slices_in allocs.old colours.old ends.old) }
+    ensures { SlicesAre allocs.old.count i (dest_step allocs.old.count i next w (held_in want) (slices_in allocs.old colours.old ends.old)) allocs.new colours.new ends.new }
 {
     if 256 <= w {
         return;
     }
     let end = ends[next];
-    let choice = allocs.choose(n, want);
-    match choice {
+    match allocs.choose(want) {
         Choice::Found(c) => {
             colours[next] = c;
             ends[next] = end + FOUND;
@@ -161,31 +150,30 @@ fn color_dest(
     }
 }
 
-// The destinations of a record, x before y.
+// The destinations of a record, x before y, which has the static after x's (mir/rename.rt has why it is counted here).
 fn color_dests(
     allocs: &mut Allocs,
-    rec: [u32; 8],
+    rec: &Record,
     hx: u64,
     hy: u64,
-    n: usize,
     i: u32,
     next: usize,
     colours: &mut [u32],
     ends: &mut [u32],
 )
-    requires masked { Masked n i allocs.old.masks (allocs_in allocs.old.lives allocs.old.locs) }
+    requires masked { Masked allocs.old.count i allocs.old.masks (allocs_in allocs.old.lives allocs.old.locs) }
     requires colours_room { next + 2 ≤ length colours.old }
     requires ends_room { next + 2 ≤ length ends.old }
-    requires ready { Ready n i next (wanted (dests rec) (held_in hx) (held_in hy)) (slices_in allocs.old colours.old ends.old) }
-    ensures { SlicesAre n i (dest_steps n i next (wanted (dests rec) (held_in hx) (held_in hy)) (slices_in allocs.old colours.old ends.old)) allocs.new colours.new ends.new }
+    requires ready { Ready allocs.old.count i next (wanted (dests rec.now) (held_in hx) (held_in hy)) (slices_in allocs.old colours.old ends.old) }
+    ensures { SlicesAre allocs.old.count i (dest_steps allocs.old.count i next (wanted (dests rec.now) (held_in hx) (held_in hy)) (slices_in allocs.old colours.old ends.old)) allocs.new colours.new ends.new }
 {
     match dests_of(rec) {
         Dests::Nothing => {}
-        Dests::One(x) => color_dest(allocs, x, hx, n, i, next, colours, ends),
+        Dests::One(x) => color_dest(allocs, x, hx, i, next, colours, ends),
         Dests::Two(x, y) => {
-            color_dest(allocs, x, hx, n, i, next, colours, ends);
+            color_dest(allocs, x, hx, i, next, colours, ends);
             let after = next + (count_static(x) as usize);
-            color_dest(allocs, y, hy, n, i, after, colours, ends);
+            color_dest(allocs, y, hy, i, after, colours, ends);
         }
     }
 }
@@ -193,39 +181,37 @@ fn color_dests(
 // One record.
 fn color_record(
     allocs: &mut Allocs,
-    rec: [u32; 8],
-    regs: &[Option<u32>; MAX_REGS],
-    n: usize,
+    rec: &Record,
+    renaming: &Renaming,
     i: u32,
-    next: usize,
     colours: &mut [u32],
     ends: &mut [u32],
 )
-    requires partner_fits { partner_fits rec ≡ true }
-    requires space_bound { (loc_of rec).space < any }
-    requires known_in { KnownIn regs.now (length colours.old) }
-    requires coloured { Coloured n (source_words regs.now colours.old rec) }
-    requires masked { Masked n i allocs.old.masks (allocs_in allocs.old.lives allocs.old.locs) }
-    requires colours_room { next + 2 ≤ length colours.old }
-    requires ends_room { next + 2 ≤ length ends.old }
-    requires ready { Ready n i next (wanted_by regs.now rec (slices_in allocs.old colours.old ends.old)) (slices_in allocs.old colours.old ends.old) }
-    ensures { SlicesAre n i (record_step n i next regs.now rec (slices_in allocs.old colours.old ends.old)) allocs.new colours.new ends.new }
+    requires partner_fits { partner_fits rec.now ≡ true }
+    requires space_bound { (loc_of rec.now).space < any }
+    requires coloured { Coloured allocs.old.count (source_words renaming.now.regs colours.old rec.now) }
+    requires masked { Masked allocs.old.count i allocs.old.masks (allocs_in allocs.old.lives allocs.old.locs) }
+    requires colours_room { renaming.now.statics + 2 ≤ length colours.old }
+    requires ends_room { renaming.now.statics + 2 ≤ length ends.old }
+    requires ready { Ready allocs.old.count i renaming.now.statics (wanted_by renaming.now.regs rec.now (slices_in allocs.old colours.old ends.old)) (slices_in allocs.old colours.old ends.old) }
+    ensures { SlicesAre allocs.old.count i (record_step allocs.old.count i renaming.now.statics renaming.now.regs rec.now (slices_in allocs.old colours.old ends.old)) allocs.new colours.new ends.new }
 {
     let s = shape_of(rec[0]);
     let action = s.action;
     let l = loc_of(rec);
-    let x = source_at(regs, rec, 0, colours);
-    let y = source_at(regs, rec, 1, colours);
+    let x = source_at(renaming, rec, 0, colours);
+    let y = source_at(renaming, rec, 1, colours);
     let hx = want_x(action, l, x, allocs);
     let hy = want_y(action, l);
-    color_dests(allocs, rec, hx, hy, n, i, next, colours, ends);
-    allocs.update(n, action, l, x, y);
+    color_dests(allocs, rec, hx, hy, i, renaming.statics, colours, ends);
+    allocs.update(action, l, x, y);
 }
 
-// Whether every destination was found; `next` is the record's first static. It counts at a load.
-pub fn was_found(rec: [u32; 8], next: usize, ends: &[u32]) -> bool
+// Whether every destination was found; `next` is the record's first static, and y's comes after it, since x's counts only if it is
+// marked. It counts at a load.
+pub fn was_found(rec: &Record, next: usize, ends: &[u32]) -> bool
     requires { next + 2 ≤ length ends.now }
-    ensures { result ≡ was_found (dests rec) next ends.now }
+    ensures { result ≡ was_found (dests rec.now) next ends.now }
 {
     match dests_of(rec) {
         Dests::Nothing => true,
@@ -247,8 +233,7 @@ fn is_marked(w: u32, next: usize, ends: &[u32]) -> bool
 fn insert_both(set: &mut ReadSet<'_>, l: Loc)
     requires index_lt_any { l.index < any }
     requires l_in_bounds { length (joined (members_in set.old) (l ∷ color.partner l ∷ [])) * 2 ≤ length set.old.words.now }
-    ensures same_reference { set.new.words.ghost_name ≡ set.old.words.ghost_name }
-    ensures holds { SetHolds set.new (joined (members_in set.old) (l ∷ color.partner l ∷ [])) set.old.words.now }
+    ensures { SetHolds set.new (joined (members_in set.old) (l ∷ color.partner l ∷ [])) set.old }
 {
     set.insert(l);
     set.insert(partner(l));
@@ -256,12 +241,11 @@ fn insert_both(set: &mut ReadSet<'_>, l: Loc)
 
 // What a record reads joins the set.
 #[tactic(auto, using(sets::proofs::Pairs::set_rules), unfolding(passes::specs::Color::joined))]
-fn read_record(rec: [u32; 8], found: bool, table: &[u32], set: &mut ReadSet<'_>)
-    requires fields_fit { fields_fit table.now rec ≡ true }
-    requires partner_fits { partner_fits rec ≡ true }
-    requires found_in_bounds { length (joined (members_in set.old) (reads_of table.now rec found)) * 2 ≤ length set.old.words.now }
-    ensures same_reference { set.new.words.ghost_name ≡ set.old.words.ghost_name }
-    ensures holds { SetHolds set.new (joined (members_in set.old) (reads_of table.now rec found)) set.old.words.now }
+fn read_record(rec: &Record, found: bool, table: &[u32], set: &mut ReadSet<'_>)
+    requires fields_fit { fields_fit table.now rec.now ≡ true }
+    requires partner_fits { partner_fits rec.now ≡ true }
+    requires found_in_bounds { length (joined (members_in set.old) (reads_of table.now rec.now found)) * 2 ≤ length set.old.words.now }
+    ensures { SetHolds set.new (joined (members_in set.old) (reads_of table.now rec.now found)) set.old }
 {
     let s = shape_of(rec[0]);
     match s.action {
@@ -303,21 +287,17 @@ pub fn color(
     ensures statics { result ≡ length (colours_of settings list.now table.now) }
     ensures colours { colours.new ≡ over (colours_of settings list.now table.now) colours.old }
     ensures ends { ends.new ≡ over (marked_ends settings list.now table.now) ends.old }
-    ensures same_reference { set.new.words.ghost_name ≡ set.old.words.ghost_name }
-    ensures set { SetHolds set.new (members_of settings list.now table.now) set.old.words.now }
+    ensures set { SetHolds set.new (members_of settings list.now table.now) set.old }
 {
-    let n = settings.count_regs as usize;
-    let mut regs = [None; MAX_REGS];
-    let mut statics = 0;
-    let mut allocs = Allocs::new(n);
-    for (i, &rec) in records_of(list).iter().enumerate() {
-        let first = statics as usize;
-        expire_sources(&mut allocs, &regs, rec, i as u32, colours);
-        color_record(&mut allocs, rec, &regs, n, i as u32, first, colours, ends);
-        let found = was_found(rec, first, ends);
+    let mut renaming = Renaming::new();
+    let mut allocs = Allocs::new(settings.count_regs as usize);
+    for (i, rec) in records_of(list).iter().enumerate() {
+        let now = i as u32;
+        expire_sources(&mut allocs, &renaming, rec, now, colours);
+        color_record(&mut allocs, rec, &renaming, now, colours, ends);
+        let found = was_found(rec, renaming.statics, ends);
         read_record(rec, found, table, set);
-        rename(&mut regs, rec, statics);
-        statics += count_statics(rec);
+        renaming.pass(rec);
     }
-    statics as usize
+    renaming.statics
 }

@@ -7,7 +7,8 @@ use mathlib.Core.Bool.{Bool, true, false, cond, ◌&&◌, not, and-true, and-fal
 use mathlib.Core.Path.{◌≡◌, refl, sym, ap, ◌∙◌}
 use native.Mathlib.Decide.{dec_lt}
 use native.Mathlib.Omega.{arith}
-use mir.Syntax.{w64}
+use mir.Syntax.{Width}
+use mir.Val.{bits}
 use lib.Bits.{bit_and, bit_or}
 use lib.Dec.{ltb, eqb}
 use lib.Pow.{pow-lt}
@@ -15,7 +16,6 @@ use borrow.Author.Tests.{lt-ltb, le-ltb, eq-eqb, ne_eqb, eqb-true, eqb-false}
 use Rattle.std.specs.Int.{bit_at, bit_not, trailing_zeros}
 use Rattle.std.proofs.lemmas.Nat.Bits.{bit_at-zero, bit_at-lt, bit_at_and, bit_at_or, bit_at_not, bit_at_above, bit_at_ones, bit_at_ones_above}
 use Rattle.std.proofs.lemmas.Nat.Bits.{bit_at-pow_same, bit_at-pow_other, bit_at-trailing_zeros}
-use Rattle.mir.specs.Records.{max_regs}
 use Rattle.passes.specs.Color.{first_below}
 use Rattle.colours.specs.Masks.{has_bit}
 use Rattle.colours.proofs.Search.{first_absent, first_stops}
@@ -51,8 +51,8 @@ has_with n c j = go (eqb j c) refl
     go true e = rw (eqb-true j c e) (is_set (bit_or n (2 ^ c)) c (omega (arith, bit_at_or n (2 ^ c) c, bit_at-pow_same c, bit_at-lt n c)))
     go false e = ap (λ x. eqb x 1) (omega (arith, bit_at_or n (2 ^ c) j, bit_at-pow_other c j (eqb-false j c e)))
 
-pub has_but : (n m j : ℕ) → n < 2 ^ max_regs → m < 2 ^ max_regs → has_bit (bit_and n (bit_not w64 m)) j ≡ (has_bit n j && not (has_bit m j))
-has_but n m j h l = go (dec_lt j max_regs)
+pub has_but : (w : Width) (n m j : ℕ) → n < 2 ^ bits w → m < 2 ^ bits w → has_bit (bit_and n (bit_not w m)) j ≡ (has_bit n j && not (has_bit m j))
+has_but w n m j h l = go (dec_lt j (bits w))
   where
     both : (a b : ℕ) → a < 2 → b < 2 → eqb (min a (1 - b)) 1 ≡ (eqb a 1 && not (eqb b 1))
     both zero zero h k = refl
@@ -63,16 +63,16 @@ has_but n m j h l = go (dec_lt j max_regs)
     both (suc zero) (suc (suc b)) h k = absurd (omega arith)
     both (suc (suc a)) b h k = absurd (omega arith)
 
-    go : Dec (j < max_regs) → has_bit (bit_and n (bit_not w64 m)) j ≡ (has_bit n j && not (has_bit m j))
+    go : Dec (j < bits w) → has_bit (bit_and n (bit_not w m)) j ≡ (has_bit n j && not (has_bit m j))
     go (yes q) =
-        ap (λ x. eqb x 1) (bit_at_and n (bit_not w64 m) j ∙ ap (min (bit_at n j)) (bit_at_not w64 m j l q))
+        ap (λ x. eqb x 1) (bit_at_and n (bit_not w m) j ∙ ap (min (bit_at n j)) (bit_at_not w m j l q))
         ∙ both (bit_at n j) (bit_at m j) (bit_at-lt n j) (bit_at-lt m j)
     go (no q) =
-        let none = bit_at_above n max_regs j h (omega (arith, q)) in
-        rw (is_clear n j none) (is_clear (bit_and n (bit_not w64 m)) j (omega (arith, bit_at_and n (bit_not w64 m) j, none)))
+        let none = bit_at_above n (bits w) j h (omega (arith, q)) in
+        rw (is_clear n j none) (is_clear (bit_and n (bit_not w m)) j (omega (arith, bit_at_and n (bit_not w m) j, none)))
 
-pub has_without : (n c j : ℕ) → n < 2 ^ max_regs → c < max_regs → has_bit (bit_and n (bit_not w64 (2 ^ c))) j ≡ cond (eqb j c) false (has_bit n j)
-has_without n c j h l = has_but n (2 ^ c) j h (pow-lt l) ∙ go (eqb j c) refl
+pub has_without : (w : Width) (n c j : ℕ) → n < 2 ^ bits w → c < bits w → has_bit (bit_and n (bit_not w (2 ^ c))) j ≡ cond (eqb j c) false (has_bit n j)
+has_without w n c j h l = has_but w n (2 ^ c) j h (pow-lt l) ∙ go (eqb j c) refl
   where
     go : (b : Bool) → eqb j c ≡ b → (has_bit n j && not (has_bit (2 ^ c) j)) ≡ cond b false (has_bit n j)
     go true e = rw (eqb-true j c e, is_set (2 ^ c) c (bit_at-pow_same c)) (and-false (has_bit n c))
@@ -80,8 +80,8 @@ has_without n c j h l = has_but n (2 ^ c) j h (pow-lt l) ∙ go (eqb j c) refl
 
 -- ---- the lowest bit: as many zeros stand below it as are counted
 
-pub lowest_first : (n : ℕ) → n < 2 ^ max_regs → (n ≡ 0 → ⊥) → first_below (has_bit n) max_regs ≡ Some (trailing_zeros w64 n)
-lowest_first n h any =
-    let t = trailing_zeros w64 n in
-    let low = bit_at-trailing_zeros w64 n (omega (arith, any)) h in
-    first_stops (has_bit n) max_regs t low.0 (first_absent (has_bit n) t (λ j l. is_clear n j (low.2 j l))) (is_set n t low.1)
+pub lowest_first : (w : Width) (n : ℕ) → n < 2 ^ bits w → (n ≡ 0 → ⊥) → first_below (has_bit n) (bits w) ≡ Some (trailing_zeros w n)
+lowest_first w n h any =
+    let t = trailing_zeros w n in
+    let low = bit_at-trailing_zeros w n (omega (arith, any)) h in
+    first_stops (has_bit n) (bits w) t low.0 (first_absent (has_bit n) t (λ j l. is_clear n j (low.2 j l))) (is_set n t low.1)

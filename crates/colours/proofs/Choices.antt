@@ -31,7 +31,7 @@ module _ {n i : ℕ} {m : Masks} {allocs : List Alloc} (h : Masked n i m allocs)
 
   module _ (free : m.free < 2 ^ max_regs) (held : m.held < 2 ^ max_regs) where
     bare_bit : (c : ℕ) → has_bit (bit_and m.free (bit_not w64 m.held)) c ≡ (has_bit m.free c && is_bare allocs c)
-    bare_bit c = has_but m.free m.held c free held ∙ ap (λ b. has_bit m.free c && b) (ap not (h.held c) ∙ not-not (is_bare allocs c))
+    bare_bit c = has_but w64 m.free m.held c free held ∙ ap (λ b. has_bit m.free c && b) (ap not (h.held c) ∙ not-not (is_bare allocs c))
 
     pub bare_first : first_below (has_bit (bit_and m.free (bit_not w64 m.held))) max_regs ≡ first_below (λ c. is_free i allocs c && is_bare allocs c) n
     bare_first =

@@ -15,6 +15,7 @@ use Rattle.passes.specs.declared.symbol.Loc.{Loc}
 use Rattle.passes.specs.Color.{alloc, colour_at, held_by, holds, is_nothing}
 use Rattle.colours.specs.declared.allocs.Allocs.{Allocs}
 use Rattle.colours.specs.Colours.{nothing, loc_in, held_in, allocs_in, Stands}
+use Rattle.colours.specs.Masks.{Masked}
 
 -- ---- the words of locations
 
@@ -67,6 +68,15 @@ module _ {n i : ℕ} {a : Allocs} {allocs : List Alloc} (s : Stands n i a allocs
   stands_at c h =
       let e = s.same in
       ap (λ r. colour_at r c) (sym e) ∙ allocs_at a.lives a.locs c (rw (e, s.masked.size) h)
+
+  -- a state whose words are the same stands for them too
+  pub stands_told : {b : Allocs} → b.count ≡ a.count → b.masks ≡ a.masks → b.lives ≡ a.lives → b.locs ≡ a.locs → Stands n i b allocs
+  stands_told {b} d e f g =
+      record {
+        count = d ∙ s.count;
+        same = ap (λ xs. allocs_in xs b.locs) f ∙ (ap (allocs_in a.lives) g ∙ s.same);
+        masked = subst (λ m. Masked n i m allocs) (sym e) s.masked;
+      }
 
   pub stands_as : {other : List Alloc} → allocs ≡ other → Stands n i a other
   stands_as e = subst (Stands n i a) e s

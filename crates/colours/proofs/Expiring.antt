@@ -14,6 +14,7 @@ use Rattle.passes.specs.declared.alloc.Alloc.{Alloc}
 use Rattle.passes.specs.Color.{colour_at}
 use Rattle.theorems.proofs.Create.{In}
 use Rattle.colours.specs.declared.allocs.Allocs.{Allocs}
+use Rattle.colours.specs.declared.masks.Masks.{Masks}
 use Rattle.colours.specs.Colours.{allocs_in, Stands}
 use Rattle.colours.specs.Masks.{has_bit, is_in, Expired}
 use Rattle.colours.proofs.Colours.{stands_at}
@@ -26,18 +27,25 @@ one_in c w = or-false (is_gen w && eqb c w)
 
 module _ (a : Allocs) (w i : ℕ) where
   pub expired_named : is_gen w ≡ false → Expired a (w ∷ []) i a
-  expired_named g = record { held = refl; free = λ c. rw (one_in c w, g) (sym (or-false (has_bit a.masks.free c))); lives = refl; locs = refl }
+  expired_named g = record { count = refl; held = refl; free = λ c. rw (one_in c w, g) (sym (or-false (has_bit a.masks.free c))); lives = refl; locs = refl }
 
   pub expired_later : i < get_or a.lives w 0 → Expired a (w ∷ []) i a
-  expired_later h = record { held = refl; free = λ c. rw (one_in c w) (sym (no c (eqb c w) refl)); lives = refl; locs = refl }
+  expired_later h = record { count = refl; held = refl; free = λ c. rw (one_in c w) (sym (no c (eqb c w) refl)); lives = refl; locs = refl }
     where
       no : (c : ℕ) (b : Bool) → eqb c w ≡ b → (has_bit a.masks.free c || ((is_gen w && b) && leb (get_or a.lives c 0) i)) ≡ has_bit a.masks.free c
       no c true e = rw (eqb-true c w e, lt-leb (get_or a.lives w 0) i h, and-false (is_gen w && true)) (or-false (has_bit a.masks.free w))
       no c false e = rw (and-false (is_gen w)) (or-false (has_bit a.masks.free c))
 
   pub expired_now : is_gen w ≡ true → get_or a.lives w 0 ≤ i → {free : ℕ} → ((c : ℕ) → has_bit free c ≡ cond (eqb c w) true (has_bit a.masks.free c))
-      → Expired a (w ∷ []) i (record a { masks = record a.masks { free = free } })
-  expired_now g h bits = record { held = refl; free = λ c. bits c ∙ rw (one_in c w, g) (set c (eqb c w) refl); lives = refl; locs = refl }
+      → {b : Allocs} → b.count ≡ a.count → b.masks ≡ record a.masks { free = free } → b.lives ≡ a.lives → b.locs ≡ a.locs → Expired a (w ∷ []) i b
+  expired_now g h bits count masks lives locs =
+      record {
+        count = count;
+        held = ap (λ (m : Masks). m.held) masks;
+        free = λ c. ap (λ (m : Masks). has_bit m.free c) masks ∙ (bits c ∙ rw (one_in c w, g) (set c (eqb c w) refl));
+        lives = lives;
+        locs = locs;
+      }
     where
       set : (c : ℕ) (b : Bool) → eqb c w ≡ b → cond b true (has_bit a.masks.free c) ≡ (has_bit a.masks.free c || (b && leb (get_or a.lives c 0) i))
       set c true e = rw (eqb-true c w e, le-leb (get_or a.lives w 0) i h) (sym (or-true (has_bit a.masks.free w)))
@@ -47,7 +55,7 @@ module _ (a : Allocs) (w i : ℕ) where
 
 pub expired_none : (a : Allocs) (i : ℕ) → Expired a [] i a
 unfolding is_in
-expired_none a i = record { held = refl; free = λ c. sym (or-false (has_bit a.masks.free c)); lives = refl; locs = refl }
+expired_none a i = record { count = refl; held = refl; free = λ c. sym (or-false (has_bit a.masks.free c)); lives = refl; locs = refl }
 
 in_more : (c w : ℕ) (ws : List ℕ) → is_in c (ws ++ w ∷ []) ≡ (is_in c ws || is_in c (w ∷ []))
 unfolding is_in
@@ -59,6 +67,7 @@ in_more c w (v ∷ ws) =
 pub expired_more : {a b : Allocs} {ws : List ℕ} {i : ℕ} (w : ℕ) → Expired a ws i b → {d : Allocs} → Expired b (w ∷ []) i d → Expired a (ws ++ w ∷ []) i d
 expired_more {a} {b} {ws} {i} w h k =
     record {
+      count = k.count ∙ h.count;
       held = k.held ∙ h.held;
       free = λ c. k.free c
           ∙ (ap (λ x. x || (is_in c (w ∷ []) && leb (get_or b.lives c 0) i)) (h.free c)
@@ -89,6 +98,7 @@ pub expired_stands : {n j : ℕ} {a : Allocs} {allocs : List Alloc} → Stands n
     → ((c : ℕ) → is_in c ws ≡ true → c < n) → Stands n i b allocs
 expired_stands {n} {j} {a} {allocs} s {ws} {i} {b} e later due inside =
     record {
+      count = e.count ∙ s.count;
       same = ap (λ xs. allocs_in xs b.locs) e.lives ∙ (ap (allocs_in a.lives) e.locs ∙ s.same);
       masked =
           record {

@@ -36,6 +36,10 @@ module _ {ℓ} {A : Type ℓ} (f : A → A) where
       ∙ (sym (append_snoc (map f (take c xs)) (f (get_or xs c d)) (drop (suc c) xs))
       ∙ ap (λ r. r ++ drop (suc c) xs) (sym (map-append f (take c xs) (get_or xs c d ∷ [])) ∙ ap (map f) (sym (take-suc xs c d h))))))
 
+  -- one element more, of a list that is changed so far
+  pub mapped_more : (xs : List A) {ws : List A} (c : ℕ) (d : A) → c < length xs → ws ≡ mapped_to xs c → set ws c (f (get_or ws c d)) ≡ mapped_to xs (c + 1)
+  mapped_more xs c d h e = rw e (ap (λ a. set (mapped_to xs c) c (f a)) (mapped_at xs c d h) ∙ mapped_next xs c d h)
+
   pub mapped_all : (xs : List A) (c : ℕ) → length xs ≤ c → mapped_to xs c ≡ map f xs
   unfolding mapped_to
   mapped_all xs c h =

@@ -1,5 +1,6 @@
 -- Each step keeps the relation between the code's state and the definitions' colours: one colour set, a location cleared, all reset.
 -- Bit by bit: a mask has the new bit where the colour is set, and what it had elsewhere.
+
 use Rattle.std.specs.Prelude.{Option, Some, None}
 use Prim.Native.Nat.{ℕ, ◌<◌, ◌≤◌}
 use mathlib.Core.Bool.{Bool, true, false, cond, not}
@@ -57,9 +58,10 @@ module _ {n i : ℕ} {a : Allocs} {allocs : List Alloc} (s : Stands n i a allocs
   past : (j : ℕ) → n ≤ j → eqb j c ≡ false
   past j l = ne_eqb j c (λ e. omega (arith, e))
 
-  pub stands_set : Stands n i (record { masks = r; lives = set a.lives c x; locs = set a.locs c k }) (set allocs c (alloc x (held_in k)))
+  pub stands_set : Stands n i (record a { masks = r; lives = set a.lives c x; locs = set a.locs c k }) (set allocs c (alloc x (held_in k)))
   stands_set =
       record {
+        count = s.count;
         same = allocs_set a.lives a.locs c x k ∙ ap (λ xs. set xs c new) s.same;
         masked =
             record {
@@ -93,7 +95,7 @@ module _ {n i : ℕ} {a : Allocs} {allocs : List Alloc} (s : Stands n i a allocs
   stands_loc k {held} bits =
       let r : Masks = record a.masks { held = held } in
       rw life_is
-      (subst (λ xs. Stands n i (record { masks = r; lives = xs; locs = set a.locs c k }) (set allocs c (alloc (get_or a.lives c 0) (held_in k)))) (set-get_or a.lives c 0)
+      (subst (λ xs. Stands n i (record a { masks = r; lives = xs; locs = set a.locs c k }) (set allocs c (alloc (get_or a.lives c 0) (held_in k)))) (set-get_or a.lives c 0)
       (stands_set s c (get_or a.lives c 0) k inside r free_stays bits))
 
   -- clearing a location from the colour, where it holds it and where not
@@ -120,11 +122,12 @@ past_same {allocs = allocs} h l j q =
 
 -- ---- all colours reset
 
-pub stands_blank : {n : ℕ} → n ≤ max_regs → (i : ℕ) {free : ℕ} → ((j : ℕ) → has_bit free j ≡ ltb j n)
-    → Stands n i (record { masks = record { free = free; held = 0 }; lives = replicate max_regs 0; locs = replicate max_regs nothing }) blank
+pub stands_blank : {n : ℕ} (few : n ≤ max_regs) (i : ℕ) {free : ℕ} → ((j : ℕ) → has_bit free j ≡ ltb j n)
+    → Stands n i (record { count = n; masks = record { free = free; held = 0 }; lives = replicate max_regs 0; locs = replicate max_regs nothing; few = few }) blank
 unfolding allocs_in
 stands_blank {n} few i bits =
     record {
+      count = refl;
       same = refl;
       masked =
           record {

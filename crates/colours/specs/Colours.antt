@@ -24,8 +24,9 @@ allocs_in [] locs = []
 allocs_in (life ∷ lives) [] = []
 allocs_in (life ∷ lives) (word ∷ locs) = alloc life (held_in word) ∷ allocs_in lives locs
 
--- the one relation that every step keeps: the code's state is that of these colours, and its masks tell of them
+-- the one relation that every step keeps: the code's state is that of these colours, n of which are there, and its masks tell of them
 pub record Stands (n i : ℕ) (a : Allocs) (allocs : List Alloc) : Type 0 where
+  pub count : a.count ≡ n
   pub same : allocs_in a.lives a.locs ≡ allocs
   pub masked : Masked n i a.masks allocs
 

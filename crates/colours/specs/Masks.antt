@@ -27,6 +27,7 @@ is_in c (w ∷ ws) = (is_gen w && eqb c w) || is_in c ws
 
 -- the colours among coloured words become free at instruction i, if their lives end there; nothing else changes
 pub record Expired (a : Allocs) (ws : List ℕ) (i : ℕ) (b : Allocs) : Type 0 where
+  pub count : b.count ≡ a.count
   pub held : b.masks.held ≡ a.masks.held
   pub free : (c : ℕ) → has_bit b.masks.free c ≡ (has_bit a.masks.free c || (is_in c ws && leb (get_or a.lives c 0) i))
   pub lives : b.lives ≡ a.lives

@@ -1,5 +1,5 @@
 // The choices among the colours, and what a choice and a read change (document 01, section 3).
-ghost use Prim.Native.Nat.{ℕ, ◌<◌, ◌≤◌};
+ghost use Prim.Native.Nat.{ℕ, ◌<◌};
 ghost use Rattle.std.specs.Prelude.{List, [], ◌∷◌, ◌≡◌, eqb, position, take};
 ghost use Rattle.mir.specs.Records.{max_regs};
 ghost use Rattle.mir.specs.Shapes.{any};
@@ -14,16 +14,16 @@ use crate::masks::{lowest, with_bit};
 use passes::alloc::Choice;
 use passes::symbol::Loc;
 
-// The word of a colour without a location.
-pub const NOTHING: u64 = 18_446_744_073_709_551_615;
+// The word of a colour without a location; a word, since `Option<Loc>` takes more instructions (`Allocs`).
+pub const NOTHING: u64 = u64::MAX;
 
-// A location as a word.
+// A location as a word: not `From`, which could not ask that the word is not the one for none.
 pub fn word_of(l: Loc) -> u64
     requires { l.space < any }
     ensures location { loc_in result ≡ l }
     ensures something { result ≡ nothing → ⊥ }
 {
-    (l.space as u64) * 4_294_967_296 + (l.index as u64)
+    u64::from(l.space) * 4_294_967_296 + u64::from(l.index)
 }
 
 impl Allocs {
@@ -36,23 +36,21 @@ impl Allocs {
         bare.or(lowest(free)).map_or(Choice::Empty, Choice::Free)
     }
 
-    // The first of `n` colours that holds the location.
-    fn holder(&self, n: usize, l: u64) -> Option<usize>
-        requires { n ≤ max_regs }
-        ensures { result ≡ position (λ held. eqb held l) (take n self.now.locs) }
+    // The first colour that holds the location.
+    fn holder(&self, l: u64) -> Option<usize>
+        ensures { result ≡ position (λ held. eqb held l) (take self.now.count self.now.locs) }
     {
-        self.locs[..n].iter().position(|&held| held == l)
+        self.locs[..self.count].iter().position(|&held| held == l)
     }
 
     // The choice for what a destination is wanted with.
-    pub fn choose(&self, n: usize, want: u64) -> Choice
-        requires { n ≤ max_regs }
-        ensures { (i : ℕ) (allocs : List Alloc) → Stands n i self.now allocs → result ≡ color.choose n i (held_in want) allocs }
+    pub fn choose(&self, want: u64) -> Choice
+        ensures { (n i : ℕ) (allocs : List Alloc) → Stands n i self.now allocs → result ≡ color.choose n i (held_in want) allocs }
     {
         if want == NOTHING {
             return self.allocate();
         }
-        match self.holder(n, want) {
+        match self.holder(want) {
             Some(c) => Choice::Found(c as u32),
             None => self.allocate(),
         }

@@ -4,16 +4,15 @@
 ghost use Rattle.std.specs.Prelude.{◌≡◌, ◌≤◌, min, length, IfOk, IfSome};
 ghost use Rattle.file.specs.File.{word_in};
 
-use file::reduce::reduce_file;
+use file::reduce::{LIST, reduce_file};
+use mir::record::{Record, records_of};
 use std::io::{Read, Write};
 use std::{fmt, io};
 use walks::Counts;
 
-// The longest file that can be well formed, and a word more, so that a longer one shows.
+// The longest file that can be well formed, and a word more, so that a longer one shows. The programs take no heap: what they read and
+// reduce has the longest length.
 pub const FILE: usize = 20_512;
-
-// The words of a record.
-const RECORD: usize = 8;
 
 // The next word of the input, lowest byte first; what is past its end counts as 0.
 pub fn word<R: Read>(input: &mut R) -> io::Result<u32>
@@ -51,9 +50,9 @@ fn read_full(input: &mut impl Read, buf: &mut [u8]) -> io::Result<usize>
 
 // A record as text: its words, with a blank between each two.
 #[derive(Clone, Copy)]
-struct Record<'a>(&'a [u32; RECORD]);
+struct Shown<'a>(&'a Record);
 
-impl fmt::Display for Record<'_> {
+impl fmt::Display for Shown<'_> {
     fn fmt<W: fmt::Write>(&self, f: &mut fmt::Formatter<W>) -> fmt::Result {
         let words = self.0;
         write!(f, "{}", words[0])?;
@@ -67,27 +66,26 @@ impl fmt::Display for Record<'_> {
 // A reduced list as text: a record a line, and then what was dropped.
 #[derive(Clone, Copy)]
 struct Reduced<'a> {
-    records: &'a [[u32; RECORD]],
+    records: &'a [Record],
     counts: Counts,
 }
 
 impl fmt::Display for Reduced<'_> {
     fn fmt<W: fmt::Write>(&self, f: &mut fmt::Formatter<W>) -> fmt::Result {
         for record in self.records {
-            writeln!(f, "{}", Record(record))?;
+            writeln!(f, "{}", Shown(record))?;
         }
-        let c = self.counts;
-        writeln!(f, "dropped {} {} {} {}", c.nops, c.loads, c.moves, c.saves)
+        let t = self.counts.tally;
+        writeln!(f, "dropped {} {} {} {}", t.nops, t.loads, t.moves, t.saves)
     }
 }
 
 // What reducing a file gives: a record a line and what was dropped, or the refusal.
 pub fn show(out: &mut impl Write, file: &[u8]) -> io::Result<()> {
-    let mut words = [0; 4096];
+    let mut words = [0; LIST];
     match reduce_file(file, &mut words) {
         Ok(counts) => {
-            let (records, _) = words.as_chunks();
-            let records = &records[..counts.records as usize];
+            let records = &records_of(&words)[..counts.tally.records as usize];
             write!(out, "{}", Reduced { records, counts })
         }
         Err(refusal) => writeln!(out, "{refusal}"),

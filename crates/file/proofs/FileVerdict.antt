@@ -72,11 +72,11 @@ kept_few {file} h =
 
 -- an answer comes of a verdict that passed
 pub answered_passed : (room : Bool) (file : List ℕ) (c : Counts) → answered (values_in c) ≡ unless (file_verdict room file) (file_counts file)
-    → (file_verdict room file ≡ Passed) × (c.records ≡ kept file)
+    → (file_verdict room file ≡ Passed) × (c.tally.records ≡ kept file)
 unfolding counts_of
 answered_passed room file c a = go (file_verdict room file) a
   where
-    go : (v : Verdict) → answered (values_in c) ≡ unless v (file_counts file) → (v ≡ Passed) × (c.records ≡ kept file)
+    go : (v : Verdict) → answered (values_in c) ≡ unless v (file_counts file) → (v ≡ Passed) × (c.tally.records ≡ kept file)
     go Passed e = (refl, cc)
     go (Refused number index) e = clash (cc)
 

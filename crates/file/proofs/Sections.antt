@@ -4,7 +4,7 @@ use Prim.Native.Nat.{ℕ, ◌+◌, ◌*◌, ◌≤◌}
 use mathlib.Core.Bool.{Bool, true, false, cond}
 use mathlib.Core.List.{List}
 use mathlib.Core.Path.{◌≡◌, refl}
-use lib.ListN.{length, replicate}
+use lib.ListN.{length}
 use borrow.Author.Tests.{leb-true, le-leb, eqb-true, eq-eqb}
 use Rattle.mir.proofs.Clash.{clash}
 use Rattle.mir.proofs.Renaming.{and_both}
@@ -74,12 +74,10 @@ module _ {file : List ℕ} {pairs records : ℕ} (h : Sections file pairs record
   pub list_length : length (list_in file) ≡ records * 8
   list_length = cc (list_is, words_length file (7 + pairs * 2) (records * 8))
 
--- the table and the list as they are read into a space of zeros
-pub table_read : (file : List ℕ) {out : List ℕ} (layout : Layout) → layout_of file ≡ Some layout
-    → out ≡ over (words_in file 6 (layout.pairs * 2)) (replicate 1024 0) → Read (table_in file) (layout.pairs * 2) out
-table_read file layout found e = read file 6 (layout.pairs * 2) (replicate 1024 0) (table_is (sections found)) e
+-- the table and the list as they are read into a space that held any words
+module _ (file old : List ℕ) {out : List ℕ} (layout : Layout) (found : layout_of file ≡ Some layout) where
+  pub table_read : out ≡ over (words_in file 6 (layout.pairs * 2)) old → Read (table_in file) (layout.pairs * 2) out
+  table_read e = read file 6 (layout.pairs * 2) old (table_is (sections found)) e
 
-pub list_read : (file : List ℕ) {out : List ℕ} (layout : Layout) → layout_of file ≡ Some layout
-    → out ≡ over (words_in file (7 + layout.pairs * 2) (layout.records * 8)) (replicate 4096 0) → Read (list_in file) (layout.records * 8) out
-list_read file layout found e =
-    read file (7 + layout.pairs * 2) (layout.records * 8) (replicate 4096 0) (list_is (sections found)) e
+  pub list_read : out ≡ over (words_in file (7 + layout.pairs * 2) (layout.records * 8)) old → Read (list_in file) (layout.records * 8) out
+  list_read e = read file (7 + layout.pairs * 2) (layout.records * 8) old (list_is (sections found)) e

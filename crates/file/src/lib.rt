@@ -9,7 +9,7 @@ ghost use Rattle.file.specs.File.{settings_of};
 
 use mir::config::Settings;
 
-// The settings, from numbers; a flag is set if its word isn't 0.
+// The settings, from numbers, as C lends them one by one; a flag is set if its word isn't 0.
 pub fn settings_of(count_regs: u32, args: u32, complex: u32, arm: u32, compress: u32) -> Settings
     ensures { result ≡ settings_of count_regs args complex arm compress }
 {

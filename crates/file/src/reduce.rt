@@ -16,7 +16,7 @@ use questions::check;
 use walks::{Counts, reduce};
 
 // The most words that a file's list and table have, and the working space for them, which is fixed: reducing takes no heap.
-const LIST: usize = 4096;
+pub const LIST: usize = 4096;
 
 const TABLE: usize = 1024;
 
@@ -110,8 +110,7 @@ pub fn reduce_sections(
 pub fn reduce_file(file: &[u8], out: &mut [u32]) -> Result<Counts, Refusal>
     ensures { FileReduced file.now out.old out.new result }
 {
-    let found = layout_of(file);
-    let Some(layout) = found else {
+    let Some(layout) = layout_of(file) else {
         return Err(Question::Lengths.of_list());
     };
     let room = layout.records * 8 <= out.len();

@@ -2,23 +2,23 @@
 -- does, and nothing else.
 -- By the laws of a slice that starts with words; a static that a register holds is among the statics so far.
 use Rattle.std.specs.Prelude.{Option, Some, None}
-use Prim.Native.Nat.{ℕ, suc, ◌+◌, ◌≤◌}
+use Prim.Native.Nat.{ℕ, ◌+◌}
 use mathlib.Core.Bool.{Bool, true, false, cond}
-use mathlib.Core.List.{List, [], ◌∷◌, ◌++◌, append-nil, append_assoc}
+use mathlib.Core.List.{List, [], ◌∷◌, ◌++◌}
 use mathlib.Core.Path.{◌≡◌, refl, sym, ap, ◌∙◌}
-use native.Mathlib.Nat.{add-zero, zero-add}
 use native.Mathlib.Numerals.{add-one}
-use native.Mathlib.Omega.{arith}
-use lib.ListN.{length, get_or, set, replicate, length-append, length-set}
+use lib.ListN.{length, get_or, replicate, length-replicate}
 use Rattle.mir.specs.Records.{record_at, is_gen}
-use Rattle.mir.specs.Renaming.{one, gens, statics_to, regs_to}
+use Rattle.mir.specs.Renaming.{gens, statics_to, regs_to}
 use Rattle.mir.specs.Shapes.{dests, sources}
-use Rattle.mir.proofs.Renaming.{gens_two}
 use Rattle.passes.specs.Create.{ended_at, consume, consumed, ends_to}
-use Rattle.theorems.proofs.Create.{names_to, ends_length, consumed_length}
+use Rattle.theorems.proofs.Create.{names_to, ends_length, consume_length, consumed_length}
 use Rattle.mir.specs.Answers.{over}
-use Rattle.lives.specs.Lives.{Known, created}
-use Rattle.mir.proofs.Over.{over_set, over_next}
+use Rattle.mir.specs.Inner.{Known}
+use borrow.Rule.Slice.PartMut.{put_mid}
+use Rattle.mir.specs.declared.rename.Renaming.{Renaming}
+use Rattle.mir.proofs.Over.{over_set, over_part}
+use Rattle.mir.proofs.Renaming.{Walked}
 
 -- ---- sources
 
@@ -49,52 +49,18 @@ module _ (regs : List (Option ℕ)) (i : ℕ) where
   consumed_over [] E old h = refl
   consumed_over (w ∷ ws) E old h =
       ap (consumed regs i ws) (consume_over w E old h)
-      ∙ consumed_over ws (consume regs i w E) old (λ r t e. rw (one_length w E) (h r t e))
-    where
-      one_length : (w : ℕ) (E : List ℕ) → length (consume regs i w E) ≡ length E
-      one_length w E = consumed_length regs i (w ∷ []) E
+      ∙ consumed_over ws (consume regs i w E) old (λ r t e. rw (consume_length regs i w E) (h r t e))
 
--- ---- destinations
+-- ---- a record: after its sources its statics end where they are written
 
-pub created_length : (ws : List ℕ) (n i : ℕ) (ends : List ℕ) → length (created ws n i ends) ≡ length ends
-unfolding created
-created_length [] n i ends = refl
-created_length (w ∷ ws) n i ends = created_length ws (n + one w) i (cond (is_gen w) (set ends n i) ends) ∙ go (is_gen w)
-  where
-    go : (b : Bool) → length (cond b (set ends n i) ends) ≡ length ends
-    go true = length-set ends n i
-    go false = refl
-
-pub created_over : (ws E old : List ℕ) (n i : ℕ) → n ≡ length E → n + gens ws ≤ length old
-    → created ws n i (over E old) ≡ over (E ++ replicate (gens ws) i) old
-unfolding created gens
-created_over [] E old n i e h = ap (λ xs. over xs old) (sym (append-nil E))
-created_over (w ∷ ws) E old n i e h = go (λ F m. created_over ws F old m i) (is_gen w) h
-  where
-    one_more : (m : ℕ) → suc m ≡ 1 + m
-    one_more m = omega arith
-
-    -- a Gen destination has the next static, a named register none
-    go : ((F : List ℕ) (m : ℕ) → m ≡ length F → m + gens ws ≤ length old → created ws m i (over F old) ≡ over (F ++ replicate (gens ws) i) old)
-        → (b : Bool) → n + (cond b 1 0 + gens ws) ≤ length old
-        → created ws (n + cond b 1 0) i (cond b (set (over E old) n i) (over E old)) ≡ over (E ++ replicate (cond b 1 0 + gens ws) i) old
-    go up false k = rw (add-zero n, zero-add (gens ws)) (up E n e (omega arith))
-    go up true k =
-        ap (created ws (n + 1) i) (ap (λ m. set (over E old) m i) e ∙ over_next E old i (omega arith))
-        ∙ (up (E ++ i ∷ []) (n + 1) (rw (length-append E (i ∷ [])) (ap (λ m. m + 1) e)) (omega arith)
-        ∙ ap (λ xs. over xs old) (append_assoc E (i ∷ []) (replicate (gens ws) i) ∙ ap (λ m. E ++ replicate m i) (one_more (gens ws))))
-
--- ---- a record
-
-module _ (list : List ℕ) (i : ℕ) where
-  pub known_to : Known (regs_to list i) (statics_to list i)
-  known_to = (names_to list i).below
-
-  pub ends_next : (old : List ℕ) → statics_to list i + 2 ≤ length old
-      → created (dests (record_at list i)) (statics_to list i) i (consumed (regs_to list i) i (sources (record_at list i)) (over (ends_to list i) old)) ≡ over (ends_to list (i + 1)) old
-  unfolding ends_to
-  ends_next old h =
-      rw (add-one i)
-      (ap (created (dests (record_at list i)) (statics_to list i) i) (consumed_over (regs_to list i) i (sources (record_at list i)) (ends_to list i) old (rw (ends_length list i) known_to))
-      ∙ created_over (dests (record_at list i)) (consumed (regs_to list i) i (sources (record_at list i)) (ends_to list i)) old (statics_to list i) i
-      (sym (consumed_length (regs_to list i) i (sources (record_at list i)) (ends_to list i) ∙ ends_length list i)) (omega (arith, gens_two (record_at list i))))
+pub ends_next : {list : List ℕ} {i : ℕ} {r : Renaming} {rec : List ℕ} {made : ℕ} → Walked list i r → rec ≡ record_at list i → made ≡ gens (dests rec) → (old : List ℕ)
+    → put_mid r.statics made (consumed r.regs i (sources rec) (over (ends_to list i) old)) (replicate made i) ≡ over (ends_to list (i + 1)) old
+unfolding ends_to
+ends_next {list} {i} w e m old =
+    let regs = regs_to list i in
+    let read = consumed regs i (sources (record_at list i)) (ends_to list i) in
+    let below : Known regs (length (ends_to list i)) = rw (ends_length list i) (names_to list i).below in
+    let first : statics_to list i ≡ length read = sym (consumed_length regs i (sources (record_at list i)) (ends_to list i) ∙ ends_length list i) in
+    rw (add-one i, w.regs_are, w.statics_are, m, e)
+    (ap (λ xs. put_mid (statics_to list i) (gens (dests (record_at list i))) xs (replicate (gens (dests (record_at list i))) i)) (consumed_over regs i (sources (record_at list i)) (ends_to list i) old below)
+    ∙ over_part read (replicate (gens (dests (record_at list i))) i) old _ _ first (sym (length-replicate (gens (dests (record_at list i))) i)))

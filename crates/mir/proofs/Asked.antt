@@ -8,8 +8,9 @@ use native.Mathlib.Omega.{arith}
 use Rattle.std.specs.Prelude.{Result, Ok, Err, IsErrAnd}
 use Rattle.mir.specs.declared.refusal.Question.{Question}
 use Rattle.mir.specs.declared.refusal.Question.TheVariants.{FewRegisters, FewArgs, Lengths, Room, Kind, Fields, Registers, Partner, Named, Since, Labels}
-use Rattle.mir.specs.Answers.{number_of, no_in}
-use Rattle.mir.specs.Folds.{first_no}
+use Rattle.mir.specs.declared.refusal.Refusal.{Refusal}
+use Rattle.mir.specs.Answers.{Verdict, number_of, no_in, verdict_in}
+use Rattle.mir.specs.Folds.{first_no, or_else}
 
 -- every question has a number
 pub numbered : (q : Question) → number_of q ≡ 0 → ⊥
@@ -38,11 +39,19 @@ pub passed_on : {T E : Type 0} (r : Result T E) {e : E} → IsErrAnd r (λ y. y 
 passed_on (Ok x) p = absurd p
 passed_on (Err y) p = ap Err p
 
--- the answer of question 9 alone
-pub nine_yes : (b : Bool) → first_no ((9, b) ∷ []) ≡ 0 → b ≡ true
-nine_yes true e = refl
-nine_yes false e = absurd (omega arith)
+-- the answer of one question alone
+pub one_yes : {number : ℕ} (b : Bool) → (number ≡ 0 → ⊥) → first_no ((number, b) ∷ []) ≡ 0 → b ≡ true
+one_yes true some e = refl
+one_yes false some e = absurd (some e)
 
-pub nine_no : (b : Bool) {m : ℕ} → m ≡ first_no ((9, b) ∷ []) → (m ≡ 0 → ⊥) → (b ≡ false) × (m ≡ 9)
-nine_no true e h = absurd (h e)
-nine_no false e h = (refl, e)
+pub one_no : {number : ℕ} (b : Bool) {m : ℕ} → m ≡ first_no ((number, b) ∷ []) → (m ≡ 0 → ⊥) → (b ≡ false) × (m ≡ number)
+one_no true e h = absurd (h e)
+one_no false e h = (refl, e)
+
+-- questions put to a list, and others after them: a refusal decides, and after a pass the others do
+module _ {a : Result (Unit {0}) Refusal} {v : Verdict} (h : verdict_in a ≡ v) (w : Verdict) where
+  pub asked_stops : (r : Result (Unit {0}) Refusal) {e : Refusal} → a ≡ Err e → IsErrAnd r (λ y. y ≡ e) → verdict_in r ≡ or_else v w
+  asked_stops r is p = rw (passed_on r p, ← h, is) refl
+
+  pub asked_passes : {u : Unit {0}} → a ≡ Ok u → w ≡ or_else v w
+  asked_passes is = rw (← h, is) refl

@@ -6,13 +6,11 @@ use mathlib.Core.List.{List, [], ◌∷◌, ◌++◌, append_assoc}
 use mathlib.Core.Path.{◌≡◌, refl, sym, ap, subst, ◌∙◌}
 use native.Mathlib.Numerals.{add-one}
 use native.Mathlib.Omega.{arith}
-use lib.ListN.{length, get_or, set, take, drop, length-append, length-drop, get_or-append, drop_of_length-le}
+use lib.ListN.{length, get_or, set, take, drop, length-append, length-drop, get_or-append}
 use lib.Seq.{drop-cons, append_snoc, set_at, set-append_left, drop-append-add}
-use lib.Seq.{take-append_seam, drop-drop}
+use lib.Seq.{take-append_seam, drop-append_seam, drop-drop}
+use borrow.Rule.Slice.PartMut.{put_mid}
 use Rattle.mir.specs.Answers.{over}
-
-pub over_nil : (old : List ℕ) → over [] old ≡ old
-over_nil old = refl
 
 pub over_length : (ws old : List ℕ) → length ws ≤ length old → length (over ws old) ≡ length old
 over_length ws old h =
@@ -53,3 +51,10 @@ pub over_after : (ws vs old : List ℕ) → ws ++ over vs (drop (length ws) old)
 over_after ws vs old =
     sym (append_assoc ws vs (drop (length vs) (drop (length ws) old)))
     ∙ ap (λ r. (ws ++ vs) ++ r) (drop-drop (length vs) (length ws) old ∙ ap (λ n. drop n old) (sym (length-append ws vs)))
+
+-- and so in a part that begins after the first ones
+pub over_part : (ws vs old : List ℕ) (a k : ℕ) → a ≡ length ws → k ≡ length vs → put_mid a k (over ws old) vs ≡ over (ws ++ vs) old
+over_part ws vs old a k e f =
+    rw (e, f)
+    (ap (λ l. l ++ (vs ++ drop (length vs) (drop (length ws) (over ws old)))) (over_take ws old)
+    ∙ (ap (λ l. ws ++ (vs ++ drop (length vs) l)) (drop-append_seam ws (drop (length ws) old)) ∙ over_after ws vs old))

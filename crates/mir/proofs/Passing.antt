@@ -10,12 +10,12 @@ use lib.ListN.{length, get_or, set}
 use lib.Dec.{ltb, leb, eqb}
 use borrow.Author.Tests.{lt-ltb, ltb-true, leb-true, eqb-true}
 use Rattle.mir.specs.declared.config.Settings.{Settings}
-use Rattle.mir.specs.Answers.{Passed, Refused}
+use Rattle.mir.specs.Answers.{Verdict, Passed, Refused}
 use Rattle.mir.specs.Branches.{past_to}
 use Rattle.std.specs.List.{list_all}
 use Rattle.mir.specs.Folds.{all_below, first_no, refused_at, or_else}
 use Rattle.mir.specs.Questions.{few_registers, few_args, well_sized, known_kind, word_fits, words_fit, fields_fit, gen_fits, gens_fit, partner_fits, sources_named, sources_since}
-use Rattle.mir.specs.Questions.{shape_no, record_no, record_by, record_refusal, lands, branch_by, branch_refusal, sizes_refusal, refusal}
+use Rattle.mir.specs.Questions.{shape_no, record_no, record_by, record_refusal, count_refusal, args_refusal, lengths_refusal, lands, branch_by, branch_refusal, sizes_refusal, refusal}
 use Rattle.mir.specs.Records.{is_gen, max_regs, records, record_at}
 use Rattle.mir.specs.Renaming.{regs_to}
 use Rattle.mir.specs.Shapes.{shape_for, registers}
@@ -165,6 +165,44 @@ sizes_pass room count_regs list table h =
     let asked : List (ℕ × Bool) = (1, few_registers count_regs) ∷ (3, well_sized list table) ∷ (4, room) ∷ [] in
     let y = each_yes asked tt (none_refused _ 0 h) in
     record { few = leb-true count_regs max_regs y.0; sized = y.1.0; roomy = y.1.1.0 }
+
+-- the questions that come before any record, one after the other
+pub refusal_parts : (room : Bool) (s : Settings) (list table : List ℕ)
+    → refusal room s list table
+    ≡ or_else (count_refusal s.count_regs)
+    (or_else (args_refusal s.args)
+    (or_else (lengths_refusal room (length list) (length table)) (or_else (record_refusal table s.count_regs list) (branch_refusal list))))
+unfolding refusal
+refusal_parts room s list table = go (few_registers s.count_regs) (few_args s.args) (well_sized (length list) (length table)) room (or_else (record_refusal table s.count_regs list) (branch_refusal list))
+  where
+    go : (a b c d : Bool) (v : Verdict)
+        → or_else (refused_at (first_no ((1, a) ∷ (2, b) ∷ (3, c) ∷ (4, d) ∷ [])) 0) v
+        ≡ or_else (refused_at (first_no ((1, a) ∷ [])) 0) (or_else (refused_at (first_no ((2, b) ∷ [])) 0) (or_else (refused_at (first_no ((3, c) ∷ (4, d) ∷ [])) 0) v))
+    go false b c d v = refl
+    go true false c d v = refl
+    go true true false d v = refl
+    go true true true false v = refl
+    go true true true true v = refl
+
+pub sizes_parts : (room : Bool) (count_regs list table : ℕ)
+    → sizes_refusal room count_regs list table
+    ≡ or_else (count_refusal count_regs) (lengths_refusal room list table)
+unfolding sizes_refusal
+sizes_parts room count_regs list table = go (few_registers count_regs)
+  where
+    go : (a : Bool)
+        → refused_at (first_no ((1, a) ∷ (3, well_sized list table) ∷ (4, room) ∷ [])) 0
+        ≡ or_else (refused_at (first_no ((1, a) ∷ [])) 0) (lengths_refusal room list table)
+    go false = refl
+    go true = refl
+
+-- what a yes to questions 1, 3 and 4 says
+pub count_few : (count_regs : ℕ) → count_refusal count_regs ≡ Passed → count_regs ≤ max_regs
+unfolding few_registers
+count_few count_regs h = leb-true count_regs max_regs (each_yes ((1, few_registers count_regs) ∷ []) tt (none_refused _ 0 h)).0
+
+pub lengths_sized : (list table : ℕ) (room : Bool) → lengths_refusal room list table ≡ Passed → well_sized list table ≡ true
+lengths_sized list table room h = (each_yes ((3, well_sized list table) ∷ (4, room) ∷ []) tt (none_refused _ 0 h)).0
 
 pub record ListPasses (s : Settings) (list table : List ℕ) : Type 0 where
   pub few : s.count_regs ≤ max_regs

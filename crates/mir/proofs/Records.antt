@@ -1,15 +1,15 @@
 -- The words of a record are the list's words from eight times its index on.
 -- By one law on the words from any place, any number of them.
 use Prim.Native.Nat.{ℕ, zero, suc, ◌+◌, ◌*◌, ◌≤◌, ◌<◌}
-use mathlib.Core.Path.{◌≡◌, refl, ◌∙◌}
+use mathlib.Core.Path.{◌≡◌, refl}
 use mathlib.Core.List.{List, [], ◌∷◌, ◌++◌, foldr}
 use native.Mathlib.Omega.{arith}
 use native.Mathlib.Nat.{add-zero, add-suc, suc-add}
 use lib.ListN.{length, get_or, take, drop}
-use lib.Seq.{drop-cons, get_or-take, get_or-drop}
+use lib.Seq.{drop-cons}
 use Rattle.std.proofs.lemmas.List.{drop-drop}
 use Rattle.std.specs.Simd.{first_chunks}
-use Rattle.mir.specs.Records.{record_at, word_at}
+use Rattle.mir.specs.Records.{record_at, records}
 
 -- records in a row, as a list of words
 abbrev pub flat : List (List ℕ) → List ℕ
@@ -31,14 +31,6 @@ pub record_words : (l : List ℕ) (i : ℕ) → i * 8 + 8 ≤ length l → recor
 unfolding record_at
 record_words l i h = words_at l 8 (i * 8) h
 
--- one of them; the kind is the first
-pub word_is : (list : List ℕ) (i p : ℕ) → p < 8 → word_at (record_at list i) p ≡ get_or list (i * 8 + p) 0
-unfolding record_at
-word_is list i p l = rw (get_or-take, get_or-drop)
-
-pub kind_is : (list : List ℕ) (i : ℕ) → word_at (record_at list i) 0 ≡ get_or list (i * 8) 0
-kind_is list i = word_is list i 0 (omega arith) ∙ simp add-zero
-
 -- ---- the chunks of eight words
 
 -- chunk i of the first k of n words each
@@ -50,3 +42,9 @@ chunk_is n (suc k) zero l h =
 chunk_is n (suc k) (suc i) l h =
     let e : suc i * n ≡ n + i * n = omega arith in
     rw (e, chunk_is n k i (drop n l) (omega arith), drop-drop)
+
+-- the records of a list, by the list's own count
+pub rows_are : (list : List ℕ) (rows : List (List ℕ)) → length rows ≡ records list
+    → ((i : ℕ) → i < length rows → (i < records list) × (get_or rows i [] ≡ record_at list i))
+    → (i : ℕ) → i < records list → get_or rows i [] ≡ record_at list i
+rows_are list rows len each i l = (each i (rw len l)).1

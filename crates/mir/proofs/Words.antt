@@ -1,23 +1,17 @@
 -- The words of a record from a place on, as a loop meets them one by one.
 -- By the laws of `take` and `drop`.
 use Prim.Native.Nat.{ℕ, ◌+◌, ◌<◌, ◌≤◌}
-use mathlib.Core.List.{List, [], ◌∷◌, ◌++◌, map}
+use mathlib.Core.List.{List, map}
 use mathlib.Core.Path.{◌≡◌, ap, ◌∙◌}
-use native.Mathlib.Numerals.{add-one}
 use native.Mathlib.Omega.{arith}
 use lib.ListN.{length, get_or, take, drop, length-drop, length-map, get_or-map}
-use lib.Seq.{length-take-le, take-suc, get_or-take, get_or-drop}
+use lib.Seq.{length-take-le, get_or-take, get_or-drop}
 use Rattle.mir.proofs.Passing.{get_d_any}
 
 module _ (ws : List ℕ) (from count : ℕ) (h : from + count ≤ length ws) (j : ℕ) (l : j < count) where
   -- the window has the word
   pub inside : j < length (take count (drop from ws))
   inside = rw (length-take-le count (drop from ws) (rw (length-drop from ws) (omega arith))) l
-
-  pub window_next : take (j + 1) (drop from ws) ≡ take j (drop from ws) ++ get_or ws (from + j) 0 ∷ []
-  window_next =
-      let k : j < length (drop from ws) = rw (length-drop from ws) (omega arith) in
-      rw (add-one j) (take-suc (drop from ws) j 0 k ∙ ap (λ w. take j (drop from ws) ++ w ∷ []) (get_or-drop from ws j 0))
 
   pub window_at : (f : ℕ → ℕ) → get_or (map f (take count (drop from ws))) j 0 ≡ f (get_or ws (from + j) 0)
   window_at f =

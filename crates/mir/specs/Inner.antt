@@ -1,10 +1,20 @@
 -- Inner: no promise is made in these words.
-use Rattle.std.specs.Prelude.{ℕ, List, [], ◌∷◌}
+use Rattle.std.specs.Prelude.{ℕ, ◌<◌, List, [], ◌∷◌, ◌≡◌, length, get_or, Option, Some, None}
 use Rattle.mir.specs.declared.shape.Dests.{Dests}
 use Rattle.mir.specs.declared.shape.Dests.TheVariants.{Nothing, One, Two}
+use Rattle.mir.specs.Records.{max_regs}
 
 -- the destinations as the code hands them on
 abbrev pub listed : Dests → List ℕ
 listed Nothing = []
 listed (One x) = x ∷ []
 listed (Two x y) = x ∷ y ∷ []
+
+-- every static that a register holds is below m
+abbrev pub Known : List (Option ℕ) → ℕ → Type 0
+Known regs m = (r t : ℕ) → get_or regs r None ≡ Some t → t < m
+
+-- the same of as many registers as a list may have
+pub record KnownIn (regs : List (Option ℕ)) (m : ℕ) : Type 0 where
+  pub size : length regs ≡ max_regs
+  pub known : Known regs m

@@ -121,6 +121,16 @@ branch_by list i = first_no ((16, lands list (record_at list i)) ∷ [])
 unfoldable pub branch_refusal : List ℕ → Verdict
 branch_refusal list = first_refusal (branch_by list) (records list)
 
+-- the questions that come before any record, as operations put them one after the other: 1; 2; and 3 with 4
+abbrev pub count_refusal : ℕ → Verdict
+count_refusal count_regs = refused_at (first_no ((1, few_registers count_regs) ∷ [])) 0
+
+abbrev pub args_refusal : ℕ → Verdict
+args_refusal args = refused_at (first_no ((2, few_args args) ∷ [])) 0
+
+abbrev pub lengths_refusal : Bool → ℕ → ℕ → Verdict
+lengths_refusal room list table = refused_at (first_no ((3, well_sized list table) ∷ (4, room) ∷ [])) 0
+
 -- the questions that come before any record, then record by record, and then question 16; `room` is the answer to
 -- question 4, which belongs to the operation that lends the buffers
 unfoldable pub refusal : Bool → Settings → List ℕ → List ℕ → Verdict

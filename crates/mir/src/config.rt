@@ -20,7 +20,7 @@ impl Settings {
     pub fn fixed(self) -> u64
         ensures { result ≡ fixed_mark self }
     {
-        let args = self.args as u64;
+        let args = u64::from(self.args);
         if self.complex {
             2 * args + 16
         } else {

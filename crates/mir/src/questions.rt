@@ -4,15 +4,17 @@ ghost use Rattle.std.specs.Prelude.{◌+◌, ◌≤◌, ◌<◌, cond, true, [],
 ghost use Rattle.mir.specs.Answers.{no_in, verdict_in};
 ghost use Rattle.std.specs.List.{list_all};
 ghost use Rattle.mir.specs.Folds.{first_no};
-ghost use Rattle.mir.specs.Questions.{well_sized, words_fit, pairs_fit, fields_fit, gen_fits, gens_fit, partner_fits, named, sources_named, since, sources_since, shape_no, record_no, record_refusal, sizes_refusal};
+ghost use Rattle.mir.specs.Questions.{count_refusal, lengths_refusal, well_sized, words_fit, pairs_fit, fields_fit, gen_fits, gens_fit, partner_fits, named, sources_named, since, sources_since, shape_no, record_no, record_refusal, sizes_refusal};
 ghost use Rattle.mir.specs.Records.{word_at, max_regs};
 ghost use Rattle.mir.specs.Shapes.{branch_if};
 
 use crate::config::MAX_REGS;
-use crate::record::records_of;
+use crate::record::{Record, records_of};
 use crate::refusal::{Question, Refusal};
-use crate::rename::{count_statics, rename, static_of};
-use crate::shape::{BRANCH_IF, LOAD_ARGS, registers_of, shape_of, sources_of};
+use crate::rename::{Renaming, static_of};
+use crate::shape::{
+    BRANCH_IF, LOAD_ARGS, LOAD_COMPLEX, SAVE_COMPLEX, registers_of, shape_of, sources_of,
+};
 
 // Question 3, of the lengths.
 pub fn well_sized(list: usize, table: usize) -> bool
@@ -22,8 +24,8 @@ pub fn well_sized(list: usize, table: usize) -> bool
 }
 
 // Question 6: no word is above the largest that its field may be.
-fn words_fit(rec: [u32; 8], most: [u32; 8]) -> bool
-    ensures { result ≡ words_fit rec most }
+fn words_fit(rec: &Record, most: [u32; 8]) -> bool
+    ensures { result ≡ words_fit rec.now most }
 {
     for p in 0..8 {
         if most[p] < rec[p] {
@@ -51,8 +53,8 @@ fn pairs_fit(table: &[u32], first: u32, count: u32) -> bool
 }
 
 // Question 6, whole.
-fn fields_fit(rec: [u32; 8], table: &[u32]) -> bool
-    ensures { result ≡ fields_fit table.now rec }
+fn fields_fit(rec: &Record, table: &[u32]) -> bool
+    ensures { result ≡ fields_fit table.now rec.now }
 {
     let s = shape_of(rec[0]);
     let most = s.most;
@@ -73,7 +75,7 @@ fn gen_fits(count_regs: u32, w: u32) -> bool
     if w < 256 { w < count_regs } else { true }
 }
 
-// Question 7, of register words.
+// Question 7, of register words: apart from a record's shape, since the chain's proof is found of a lent slice alone.
 fn all_gens_fit(words: &[u32], count_regs: u32) -> bool
     ensures { result ≡ list_all (gen_fits count_regs) words.now }
 {
@@ -81,26 +83,26 @@ fn all_gens_fit(words: &[u32], count_regs: u32) -> bool
 }
 
 // Question 7.
-fn gens_fit(rec: [u32; 8], count_regs: u32) -> bool
-    ensures { result ≡ gens_fit count_regs rec }
+fn gens_fit(rec: &Record, count_regs: u32) -> bool
+    ensures { result ≡ gens_fit count_regs rec.now }
 {
-    all_gens_fit(registers_of(&rec), count_regs)
+    all_gens_fit(registers_of(rec), count_regs)
 }
 
 // Question 8.
-fn partner_fits(rec: [u32; 8]) -> bool
-    ensures { result ≡ partner_fits rec }
+fn partner_fits(rec: &Record) -> bool
+    ensures { result ≡ partner_fits rec.now }
 {
     let kind = rec[0];
     match kind {
-        7..=8 => rec[4] < u32::MAX,
+        LOAD_COMPLEX | SAVE_COMPLEX => rec[4] < u32::MAX,
         _ => true,
     }
 }
 
 // Questions 5 to 7.
-pub fn check_shape(rec: [u32; 8], table: &[u32], count_regs: u32) -> Result<(), Question>
-    ensures { no_in result ≡ shape_no table.now count_regs rec }
+pub fn check_shape(rec: &Record, table: &[u32], count_regs: u32) -> Result<(), Question>
+    ensures { no_in result ≡ shape_no table.now count_regs rec.now }
 {
     if 20 < rec[0] {
         return Err(Question::Kind);
@@ -128,13 +130,13 @@ fn check_named(regs: &[Option<u32>; MAX_REGS], w: u32) -> Result<(), Question>
 }
 
 // Question 15, of one source word: its static is none of the `past` that were written before a BranchIf.
-fn is_since(regs: &[Option<u32>; MAX_REGS], past: u32, w: u32) -> bool
+fn is_since(regs: &[Option<u32>; MAX_REGS], past: usize, w: u32) -> bool
     ensures { result ≡ since past regs.now w }
 {
     let Some(s) = static_of(regs, w) else {
         return true;
     };
-    past <= s
+    past <= s as usize
 }
 
 // Question 9, of a record's source words.
@@ -148,17 +150,17 @@ fn check_all_named(regs: &[Option<u32>; MAX_REGS], words: &[u32]) -> Result<(), 
 }
 
 // Question 15, of a record's source words.
-fn all_since(regs: &[Option<u32>; MAX_REGS], past: u32, words: &[u32]) -> bool
+fn all_since(regs: &[Option<u32>; MAX_REGS], past: usize, words: &[u32]) -> bool
     ensures { result ≡ list_all (since past regs.now) words.now }
 {
     words.iter().all(|&w| is_since(regs, past, w))
 }
 
 // Questions 9 and 15: every source is asked 9 before any is asked 15.
-fn check_sources(regs: &[Option<u32>; MAX_REGS], past: u32, rec: [u32; 8]) -> Result<(), Question>
-    ensures { no_in result ≡ first_no ((9, sources_named regs.now rec) ∷ (15, sources_since past regs.now rec) ∷ []) }
+fn check_sources(regs: &[Option<u32>; MAX_REGS], past: usize, rec: &Record) -> Result<(), Question>
+    ensures { no_in result ≡ first_no ((9, sources_named regs.now rec.now) ∷ (15, sources_since past regs.now rec.now) ∷ []) }
 {
-    let words = sources_of(&rec);
+    let words = sources_of(rec);
     check_all_named(regs, words)?;
     if !all_since(regs, past, words) {
         return Err(Question::Since);
@@ -168,13 +170,13 @@ fn check_sources(regs: &[Option<u32>; MAX_REGS], past: u32, rec: [u32; 8]) -> Re
 
 // Questions 5 to 9 and 15.
 fn check_record(
-    rec: [u32; 8],
+    rec: &Record,
     table: &[u32],
     count_regs: u32,
     regs: &[Option<u32>; MAX_REGS],
-    past: u32,
+    past: usize,
 ) -> Result<(), Question>
-    ensures { no_in result ≡ record_no table.now count_regs regs.now past rec }
+    ensures { no_in result ≡ record_no table.now count_regs regs.now past rec.now }
 {
     check_shape(rec, table, count_regs)?;
     if !partner_fits(rec) {
@@ -183,13 +185,20 @@ fn check_record(
     check_sources(regs, past, rec)
 }
 
-// Questions 1, 3 and 4, which come before any record of a list that is surveyed; `room` is the answer to question 4.
-pub fn check_sizes(list: usize, table: usize, count_regs: u32, room: bool) -> Result<(), Refusal>
-    ensures { verdict_in result ≡ sizes_refusal room count_regs list table }
+// Question 1.
+pub fn check_count(count_regs: u32) -> Result<(), Refusal>
+    ensures { verdict_in result ≡ count_refusal count_regs }
 {
     if MAX_REGS < count_regs as usize {
         return Err(Question::FewRegisters.of_list());
     }
+    Ok(())
+}
+
+// Questions 3 and 4; `room` is the answer to question 4.
+pub fn check_lengths(list: usize, table: usize, room: bool) -> Result<(), Refusal>
+    ensures { verdict_in result ≡ lengths_refusal room list table }
+{
     if !well_sized(list, table) {
         return Err(Question::Lengths.of_list());
     }
@@ -199,9 +208,17 @@ pub fn check_sizes(list: usize, table: usize, count_regs: u32, room: bool) -> Re
     Ok(())
 }
 
+// Questions 1, 3 and 4, which come before any record of a list that is surveyed.
+pub fn check_sizes(list: usize, table: usize, count_regs: u32, room: bool) -> Result<(), Refusal>
+    ensures { verdict_in result ≡ sizes_refusal room count_regs list table }
+{
+    check_count(count_regs)?;
+    check_lengths(list, table, room)
+}
+
 // How many statics were written before the last BranchIf, once a record has been passed; `statics` were there before it.
-fn past_after(rec: [u32; 8], statics: u32, past: u32) -> u32
-    ensures { result ≡ cond (eqb (word_at rec 0) branch_if) statics past }
+fn past_after(rec: &Record, statics: usize, past: usize) -> usize
+    ensures { result ≡ cond (eqb (word_at rec.now 0) branch_if) statics past }
 {
     if rec[0] == BRANCH_IF { statics } else { past }
 }
@@ -212,17 +229,15 @@ pub fn check_records(list: &[u32], table: &[u32], count_regs: u32) -> Result<(),
     requires table_value { well_sized (length list.now) (length table.now) ≡ true }
     ensures { verdict_in result ≡ record_refusal table.now count_regs list.now }
 {
-    let mut regs = [None; MAX_REGS];
-    let mut statics = 0;
+    let mut renaming = Renaming::new();
     let mut past = 0;
-    for (i, &rec) in records_of(list).iter().enumerate() {
-        let answer = check_record(rec, table, count_regs, &regs, past);
-        if let Err(question) = answer {
+    for (i, rec) in records_of(list).iter().enumerate() {
+        // Not `map_err` and `?`: the proof does not reach what a closure gives there.
+        if let Err(question) = check_record(rec, table, count_regs, &renaming.regs, past) {
             return Err(question.of_record(i as u32));
         }
-        rename(&mut regs, rec, statics);
-        past = past_after(rec, statics, past);
-        statics += count_statics(rec);
+        past = past_after(rec, renaming.statics, past);
+        renaming.pass(rec);
     }
     Ok(())
 }

@@ -5,40 +5,28 @@ ghost use Rattle.mir.specs.Answers.{number_of, refusal_of, refusal_text};
 use std::error::Error;
 use std::fmt;
 
-// The questions (document 01, section 7; document 02, request 10), by what each asks.
+// The questions by what each asks, with the numbers that they have in document 01, section 7, and document 02, request 10.
 #[derive(Clone, Copy, Debug, PartialEq, Eq)]
 pub enum Question {
-    FewRegisters,
-    FewArgs,
-    Lengths,
-    Room,
-    Kind,
-    Fields,
-    Registers,
-    Partner,
-    Named,
-    Since,
-    Labels,
+    FewRegisters = 1,
+    FewArgs = 2,
+    Lengths = 3,
+    Room = 4,
+    Kind = 5,
+    Fields = 6,
+    Registers = 7,
+    Partner = 8,
+    Named = 9,
+    Since = 15,
+    Labels = 16,
 }
 
 impl Question {
-    // The number that the question has in document 01.
+    // The question's number.
     pub fn number(self) -> u32
         ensures { result ≡ number_of self }
     {
-        match self {
-            Question::FewRegisters => 1,
-            Question::FewArgs => 2,
-            Question::Lengths => 3,
-            Question::Room => 4,
-            Question::Kind => 5,
-            Question::Fields => 6,
-            Question::Registers => 7,
-            Question::Partner => 8,
-            Question::Named => 9,
-            Question::Since => 15,
-            Question::Labels => 16,
-        }
+        self as u32
     }
 
     // No to a question that is put to no record.
@@ -61,7 +49,7 @@ impl Question {
 #[derive(Clone, Copy, Debug, PartialEq, Eq)]
 pub struct Refusal {
     pub question: Question,
-    // The index of the record; 0 where the question is not put to a record.
+    // The index of the record; 0 where the question is not put to a record, as document 01 has it.
     pub index: u32,
 }
 

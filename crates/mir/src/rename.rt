@@ -1,19 +1,22 @@
 // Which static each register holds (document 01, section 2).
 ghost use Rattle.std.specs.Prelude.{◌+◌, ◌<◌, None, ◌≡◌, get_or};
-ghost use Rattle.mir.specs.Renaming.{gens, one, produced, renamed};
+ghost use Rattle.mir.specs.Renaming.{fresh, gens, one, produced, renamed};
 ghost use Rattle.mir.specs.Shapes.{any, dests};
+ghost use Rattle.mir.specs.Inner.{KnownIn};
 
 use crate::config::MAX_REGS;
+use crate::record::Record;
 use crate::shape::{CALL, Dests, LABEL, dests_of};
 
-// The static that a register holds; a named register, or a number past the registers, holds none.
+// The static that a register holds; a named register, or a number past the registers, holds none. Reading and renaming ask less than
+// methods of `Renaming` would: nothing of the statics that the registers hold.
 pub fn static_of(regs: &[Option<u32>; MAX_REGS], w: u32) -> Option<u32>
     ensures { result ≡ get_or regs.now w None }
 {
     regs.get(w as usize).copied().flatten()
 }
 
-// How many statics a destination makes.
+// How many statics a destination makes. A register word below 256 is Gen: records are words, as C lends them.
 pub fn count_static(w: u32) -> u32
     ensures { result ≡ one w }
 {
@@ -31,8 +34,8 @@ fn produce(regs: &mut [Option<u32>; MAX_REGS], w: u32, next: u32)
 }
 
 // How many statics a record makes.
-pub fn count_statics(rec: [u32; 8]) -> u32
-    ensures { result ≡ gens (dests rec) }
+pub fn count_statics(rec: &Record) -> u32
+    ensures { result ≡ gens (dests rec.now) }
 {
     match dests_of(rec) {
         Dests::Nothing => 0,
@@ -41,10 +44,11 @@ pub fn count_statics(rec: [u32; 8]) -> u32
     }
 }
 
-// The registers after the destinations of a record; its first new static is `next`.
-fn produce_all(regs: &mut [Option<u32>; MAX_REGS], rec: [u32; 8], next: u32)
+// The registers after the destinations of a record; its first new static is `next`. The static after x's is counted here, as it is
+// where destinations take colours and are rewritten: one line between two calls, which a struct of word and static would not save.
+fn produce_all(regs: &mut [Option<u32>; MAX_REGS], rec: &Record, next: u32)
     requires { next + 1 < any }
-    ensures { regs.new ≡ produced (dests rec) next regs.old }
+    ensures { regs.new ≡ produced (dests rec.now) next regs.old }
 {
     match dests_of(rec) {
         Dests::Nothing => {}
@@ -59,9 +63,9 @@ fn produce_all(regs: &mut [Option<u32>; MAX_REGS], rec: [u32; 8], next: u32)
 }
 
 // The registers after a record.
-pub fn rename(regs: &mut [Option<u32>; MAX_REGS], rec: [u32; 8], next: u32)
+pub fn rename(regs: &mut [Option<u32>; MAX_REGS], rec: &Record, next: u32)
     requires { next + 1 < any }
-    ensures { regs.new ≡ renamed rec next regs.old }
+    ensures { regs.new ≡ renamed rec.now next regs.old }
 {
     let kind = rec[0];
     match kind {
@@ -71,5 +75,38 @@ pub fn rename(regs: &mut [Option<u32>; MAX_REGS], rec: [u32; 8], next: u32)
         _ => {
             produce_all(regs, rec, next);
         }
+    }
+}
+
+// The registers as a walk over a list goes on.
+#[derive(Drop)]
+pub struct Renaming {
+    // The static that each register holds.
+    pub regs: [Option<u32>; MAX_REGS],
+    // How many statics there are so far, which is the number of the next.
+    pub statics: usize,
+    pub ghost known: { KnownIn regs statics },
+}
+
+impl Renaming {
+    // Before the first record.
+    pub fn new() -> Renaming
+        ensures regs { result.regs ≡ fresh }
+        ensures statics { result.statics ≡ 0 }
+    {
+        Renaming {
+            regs: [None; MAX_REGS],
+            statics: 0,
+        }
+    }
+
+    // After a record.
+    pub fn pass(&mut self, rec: &Record)
+        requires { self.old.statics + 1 < any }
+        ensures regs { self.new.regs ≡ renamed rec.now self.old.statics self.old.regs }
+        ensures statics { self.new.statics ≡ self.old.statics + gens (dests rec.now) }
+    {
+        rename(&mut self.regs, rec, self.statics as u32);
+        self.statics += count_statics(rec) as usize;
     }
 }

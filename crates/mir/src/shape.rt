@@ -3,6 +3,7 @@ ghost use Rattle.std.specs.Prelude.{◌≡◌};
 ghost use Rattle.mir.specs.Inner.{listed};
 ghost use Rattle.mir.specs.Shapes.{shape_of, dests, registers, sources};
 
+use crate::record::Record;
 use Action::{Clear, Load, LoadArgs, LoadComplex, Mov, Other, Save, SaveComplex};
 
 // What the passes do with a record besides reading its sources and writing its destinations.
@@ -56,7 +57,7 @@ pub const BRANCH: u32 = 16;
 pub const BRANCH_IF: u32 = 17;
 
 // The largest word, register word and space.
-const ANY: u32 = 4_294_967_295;
+const ANY: u32 = u32::MAX;
 
 const REG: u32 = 259;
 
@@ -105,7 +106,7 @@ pub fn shape_of(kind: u32) -> Shape
 }
 
 // The register words of a record: its destinations, and after them its sources.
-pub fn registers_of(rec: &[u32; 8]) -> &[u32]
+pub fn registers_of(rec: &Record) -> &[u32]
     ensures { result.now ≡ registers rec.now }
 {
     let s = shape_of(rec[0]);
@@ -113,7 +114,7 @@ pub fn registers_of(rec: &[u32; 8]) -> &[u32]
     &rec[s.regs..end]
 }
 
-pub fn sources_of(rec: &[u32; 8]) -> &[u32]
+pub fn sources_of(rec: &Record) -> &[u32]
     ensures { result.now ≡ sources rec.now }
 {
     let s = shape_of(rec[0]);
@@ -121,8 +122,8 @@ pub fn sources_of(rec: &[u32; 8]) -> &[u32]
     &rec[from..from + s.srcs]
 }
 
-// The destinations of a record: x before y. At most two words, by value: as a slice they would give each of the eight functions that
-// go over them a loop and an invariant, where two calls need neither.
+// The destinations of a record, x before y: at most two words, by value. No option, since there may be two; as a slice they would give
+// each of the six functions that go over them a loop and an invariant, where two calls need neither.
 #[derive(Clone, Copy)]
 pub enum Dests {
     Nothing,
@@ -130,8 +131,8 @@ pub enum Dests {
     Two(u32, u32),
 }
 
-pub fn dests_of(rec: [u32; 8]) -> Dests
-    ensures { listed result ≡ dests rec }
+pub fn dests_of(rec: &Record) -> Dests
+    ensures { listed result ≡ dests rec.now }
 {
     let s = shape_of(rec[0]);
     let at = s.regs;

@@ -1,2 +1,2 @@
--- What only the functions inside say; what the questions promise is in mir.
+-- Inner: no promise is made in these words; what the questions promise is in mir.
 pub mod Table

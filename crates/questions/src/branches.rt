@@ -11,11 +11,12 @@ ghost use Rattle.mir.specs.Branches.{is_branch, is_label};
 ghost use Rattle.mir.specs.Questions.{has_label, branch_refusal};
 ghost use Rattle.mir.specs.Records.{records};
 
-use mir::record::records_of;
+use mir::record::{Record, records_of};
 use mir::refusal::{Question, Refusal};
 use mir::shape::{BRANCH, BRANCH_IF, LABEL};
 
-// How many numbers the table has room for, eight to a slot. A number is in the table if it stands at a place of its slot.
+// How many numbers the table has room for, eight to a slot: words that are lent one function to the next, where a proof forgets the
+// length of an array behind `&mut`. A number is in the table if it stands at a place of its slot.
 const PLACES: usize = 4_096;
 
 // The slot of a number: the top nine bits of a product of 32 bits, by which numbers that follow each other lie far apart.
@@ -23,7 +24,7 @@ fn slot(number: u32) -> usize
     ensures is { result ≡ slot_of number }
     ensures below { result < 512 }
 {
-    ((number as u64) * 2_654_435_761 / 8_388_608 % 512) as usize
+    (u64::from(number) * 2_654_435_761 / 8_388_608 % 512) as usize
 }
 
 // What an empty place of a slot holds: a number that belongs to another slot.
@@ -38,9 +39,7 @@ fn empty(table: &mut [u32])
     requires { table.old ≡ replicate 4096 0 }
     ensures { Empty table.new }
 {
-    for p in 0..8 {
-        table[p] = away(0);
-    }
+    table[..8].fill(away(0));
 }
 
 // Whether a number is in the table.
@@ -73,9 +72,8 @@ fn find_room(table: &[u32], s: usize) -> Option<usize>
     None
 }
 
-// The number of the Label that a record goes to, if it is a branch. The record is lent, for a walk looks at most records' kinds
-// only.
-fn target_of(rec: &[u32; 8]) -> Option<u32>
+// The number of the Label that a record goes to, if it is a branch.
+fn target_of(rec: &Record) -> Option<u32>
     ensures { result ≡ target_of rec.now }
 {
     match rec[0] {
@@ -86,34 +84,32 @@ fn target_of(rec: &[u32; 8]) -> Option<u32>
 }
 
 // The first branch: a list without branches needs no table.
-fn first_branch(records: &[[u32; 8]]) -> Option<usize>
+fn first_branch(records: &[Record]) -> Option<usize>
     ensures { result ≡ position is_branch records.now }
 {
     records.iter().position(|rec| target_of(rec).is_some())
 }
 
 // Puts the number of a record, if it is a branch, into the table. Says no if other numbers have all its places.
-fn put_branch(rec: &[u32; 8], table: &mut [u32]) -> bool
+fn put_branch(rec: &Record, table: &mut [u32]) -> bool
     requires { length table.old ≡ 4096 }
     ensures { Put rec.now table.old table.new result }
 {
-    let target = target_of(rec);
-    let Some(number) = target else {
+    let Some(number) = target_of(rec) else {
         return true;
     };
     if is_in(table, number) {
         return true;
     }
-    let room = find_room(table, slot(number));
-    let Some(p) = room else {
+    let Some(p) = find_room(table, slot(number)) else {
         return false;
     };
     table[p] = number;
     true
 }
 
-// Puts the numbers of the branches from record `from` on into the table, up to the first that finds no place. Gives its index,
-// or the number of records: where the next round begins, or that there is none.
+// Puts the numbers of the branches from record `from` on into the table, up to the first that finds no place. Gives where this round
+// ends: its index, or the number of records, where no other round begins; a bound, and no option, since the caller goes on from it.
 fn collect(list: &[u32], from: usize, table: &mut [u32]) -> usize
     requires table_len { length table.old ≡ 4096 }
     requires from_bound { from < records list.now }
@@ -121,9 +117,9 @@ fn collect(list: &[u32], from: usize, table: &mut [u32]) -> usize
     ensures { Collected list.now from result table.new }
 {
     let records = records_of(list);
-    for i in from..records.len() {
-        if !put_branch(&records[i], table) {
-            return i;
+    for (k, rec) in records[from..].iter().enumerate() {
+        if !put_branch(rec, table) {
+            return from + k;
         }
     }
     records.len()
@@ -144,7 +140,7 @@ fn take_out(number: u32, table: &mut [u32])
 }
 
 // Takes the number of a record, if it is a Label, out of the table.
-fn strike_label(rec: &[u32; 8], table: &mut [u32])
+fn strike_label(rec: &Record, table: &mut [u32])
     requires { length table.old ≡ 4096 }
     ensures { Without (λ name. is_label name rec.now) table.old table.new }
 {
@@ -164,18 +160,17 @@ fn strike(list: &[u32], table: &mut [u32])
 }
 
 // Whether a record is a branch whose number is in the table.
-fn is_left(rec: &[u32; 8], table: &[u32; PLACES]) -> bool
+fn is_left(rec: &Record, table: &[u32; PLACES]) -> bool
     ensures { result ≡ is_left table.now rec.now }
 {
-    let target = target_of(rec);
-    let Some(number) = target else {
+    let Some(number) = target_of(rec) else {
         return false;
     };
     is_in(table, number)
 }
 
 // The first branch whose number is in the table.
-fn first_left(records: &[[u32; 8]], table: &[u32; PLACES]) -> Option<usize>
+fn first_left(records: &[Record], table: &[u32; PLACES]) -> Option<usize>
     ensures { result ≡ position (is_left table.now) records.now }
 {
     records.iter().position(|rec| is_left(rec, table))
@@ -188,8 +183,7 @@ pub fn check_branches(list: &[u32]) -> Result<(), Refusal>
 {
     let records = records_of(list);
     let n = records.len();
-    let first = first_branch(records);
-    let Some(branch) = first else {
+    let Some(branch) = first_branch(records) else {
         return Ok(());
     };
     let mut from = branch;
@@ -199,8 +193,7 @@ pub fn check_branches(list: &[u32]) -> Result<(), Refusal>
         empty(&mut table);
         let until = collect(list, from, &mut table);
         strike(list, &mut table);
-        let bad = first_left(&records[from..until], &table);
-        if let Some(k) = bad {
+        if let Some(k) = first_left(&records[from..until], &table) {
             return Err(Question::Labels.of_record((from + k) as u32));
         }
         from = until;

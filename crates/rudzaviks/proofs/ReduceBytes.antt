@@ -6,7 +6,7 @@ use mathlib.Core.List.{List, ◌∷◌}
 use mathlib.Core.Path.{◌≡◌, sym, ap, ◌∙◌}
 use native.Mathlib.Omega.{arith}
 use lib.Dec.{leb}
-use lib.ListN.{length, take, drop, replicate}
+use lib.ListN.{length, take, drop}
 use borrow.Author.Tests.{leb-true}
 use Rattle.walks.specs.declared.Counts.{Counts}
 use Rattle.passes.specs.Contract.{counts_of}
@@ -63,11 +63,11 @@ refused_bytes {file} {held} h a = refused_promise (refused_is (bytes_verdict fil
 -- what the sections of a file were reduced to: the counts, and the words that the working space starts with
 pub record Words (file held : List ℕ) (c : Counts) (last : List ℕ) : Type 0 where
   pub passed : bytes_verdict file held ≡ Passed
-  pub records_are : c.records ≡ kept file
-  pub words_are : take (c.records * 8) last ≡ file_reduced file
-  pub few : c.records ≤ 512
-  pub count : length (take (c.records * 8) last) ≡ c.records * 8
-  pub fit : 4 + length (take (c.records * 8) last) * 4 ≤ length held
+  pub records_are : c.tally.records ≡ kept file
+  pub words_are : take (c.tally.records * 8) last ≡ file_reduced file
+  pub few : c.tally.records ≤ 512
+  pub count : length (take (c.tally.records * 8) last) ≡ c.tally.records * 8
+  pub fit : 4 + length (take (c.tally.records * 8) last) * 4 ≤ length held
 
 pub words : {file held : List ℕ} {pairs count : ℕ} {c : Counts} {last : List ℕ} (work : List ℕ) → Sections file pairs count
     → answered (values_in c) ≡ unless (file_verdict (leb (4 + count * 32) (length held)) file) (file_counts file)
@@ -76,8 +76,8 @@ words {file} {held} {c = c} {last = last} work h a o =
     let p = answered_passed (leb (4 + record_count file * 32) (length held)) file c (rw h.records_are at a) in
     let r = leb-true (4 + record_count file * 32) (length held) (accepted p.0).room_is in
     let n = p.1 in
-    let w : take (c.records * 8) last ≡ file_reduced file = cc (p.0, kept_size file, over_take (file_reduced file) work) in
-    let k : length (take (c.records * 8) last) ≡ c.records * 8 = cc (kept_size file) in
+    let w : take (c.tally.records * 8) last ≡ file_reduced file = cc (p.0, kept_size file, over_take (file_reduced file) work) in
+    let k : length (take (c.tally.records * 8) last) ≡ c.tally.records * 8 = cc (kept_size file) in
     record {
       passed = p.0;
       records_are = n;
@@ -87,13 +87,13 @@ words {file} {held} {c = c} {last = last} work h a o =
       fit = omega (arith, kept_few h, h.records_are);
     }
 
--- the same of what `reduce_sections` answers, with a working space of zeros
-pub words_left : {file held : List ℕ} {layout : Layout} {r : Result Counts Refusal} {c : Counts} {last : List ℕ} → layout_of file ≡ Some layout
+-- the same of what `reduce_sections` answers, with a working space that held any words
+pub words_left : (work : List ℕ) {file held : List ℕ} {layout : Layout} {r : Result Counts Refusal} {c : Counts} {last : List ℕ} → layout_of file ≡ Some layout
     → r ≡ Ok c → report r ≡ unless (file_verdict (leb (4 + layout.records * 32) (length held)) file) (file_counts file)
-    → last ≡ left (file_verdict (leb (4 + layout.records * 32) (length held)) file) (file_reduced file) (replicate 4096 0) → Words file held c last
-words_left found e a o = words (replicate 4096 0) (sections found) (ap report (sym e) ∙ a) o
+    → last ≡ left (file_verdict (leb (4 + layout.records * 32) (length held)) file) (file_reduced file) work → Words file held c last
+words_left work found e a o = words work (sections found) (ap report (sym e) ∙ a) o
 
 pub written_promise : {file held now : List ℕ} {c : Counts} {last : List ℕ} → Words file held c last
-    → now ≡ over (bytes_of (c.records ∷ take (c.records * 8) last)) held → RudzaviksReduce file held now c.records
+    → now ≡ over (bytes_of (c.tally.records ∷ take (c.tally.records * 8) last)) held → RudzaviksReduce file held now c.tally.records
 unfolding counts_of
 written_promise w e = bytes_promise (rw w.passed w.records_are) (rw (w.passed, e, w.words_are, w.records_are))

@@ -10,7 +10,7 @@ ghost use Rattle.survey.specs.Beside.{place_in};
 
 use allocator::optimize;
 use file::layout::{Layout, layout_of, write_words};
-use file::reduce::reduce_sections;
+use file::reduce::{LIST, reduce_sections};
 use file::settings_of;
 use mir::config::Settings;
 use mir::questions::check_sizes;
@@ -19,12 +19,12 @@ use questions::check;
 use survey::survey;
 use walks::Counts;
 
-// A refusal: the question's number above bit 32, the record's index below it.
+// A refusal as the word that C gets: the question's number above bit 32, the record's index below it.
 fn refusal_word(refusal: Refusal) -> u64
     ensures { result ≡ refusal_word (number_of refusal.question) refusal.index }
 {
     let number = refusal.question.number();
-    (number as u64) * 4_294_967_296 + (refusal.index as u64)
+    u64::from(number) * 4_294_967_296 + u64::from(refusal.index)
 }
 
 // The settings that a survey looks at.
@@ -38,7 +38,7 @@ fn settings_beside(count_regs: u32, compress: u32) -> Settings
 fn place_word(place: Option<u32>) -> u32
     ensures { result ≡ get_or (place_in place) 0 4294967295 }
 {
-    place.unwrap_or(4_294_967_295)
+    place.unwrap_or(u32::MAX)
 }
 
 // The parts of a survey at the start of a slice: the mask as two words, the low one first.
@@ -70,7 +70,7 @@ pub fn rudzaviks_survey(
         Ok(registers) => {
             let index = place_word(registers.place);
             write_parts(registers.mask, registers.count, index, parts);
-            index as u64
+            u64::from(index)
         }
         Err(refusal) => refusal_word(refusal),
     }
@@ -81,12 +81,13 @@ fn write_counts(c: Counts, counts: &mut [u32])
     requires { 7 ≤ length counts.old }
     ensures { counts.new ≡ over (values_in c) counts.old }
 {
+    let t = c.tally;
     counts[..7].copy_from_slice(&[
-        c.records, c.statics, c.members, c.nops, c.loads, c.moves, c.saves,
+        t.records, c.statics, c.members, t.nops, t.loads, t.moves, t.saves,
     ]);
 }
 
-// 0 for a list that passes.
+// What a list without room is answered with, as the word that C gets: 0 would be for a list that passes.
 fn verdict_word(answer: Result<(), Refusal>) -> u64
     ensures { result ≡ report_word records_word (unless (verdict_in answer) []) }
 {
@@ -120,7 +121,7 @@ pub fn rudzaviks_optimize(
     match optimize(list, table, settings, out, colours, ends, set) {
         Ok(c) => {
             write_counts(c, counts);
-            c.records as u64
+            u64::from(c.tally.records)
         }
         Err(refusal) => refusal_word(refusal),
     }
@@ -132,13 +133,13 @@ fn reduce_bytes(file: &[u8], layout: Layout, out: &mut [u8]) -> u64
     ensures { RudzaviksReduce file.now out.old out.new result }
 {
     let room = 4 + layout.records * 32 <= out.len();
-    let mut words = [0u32; 4096];
+    let mut words = [0u32; LIST];
     match reduce_sections(file, layout, room, &mut words) {
         Ok(c) => {
-            let count = c.records;
+            let count = c.tally.records;
             let end = (count as usize) * 8;
             write_words(count, &words[..end], out);
-            count as u64
+            u64::from(count)
         }
         Err(refusal) => refusal_word(refusal),
     }

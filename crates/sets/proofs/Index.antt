@@ -12,13 +12,12 @@ use lib.ListN.{length, get_or, replicate, length-set, length-replicate}
 use lib.Seq.{get_or-set_same, get_or-set_other}
 use Rattle.std.proofs.lemmas.List.{get_or-replicate}
 use borrow.Author.Tests.{ltb-true, eq-eqb, ne_eqb}
-use Rattle.mir.proofs.Clash.{clash}
+use Rattle.mir.proofs.Clash.{clash, same_or}
 use Rattle.mir.proofs.Renaming.{and_both}
 use Rattle.passes.specs.declared.symbol.Loc.{Loc}
 use Rattle.passes.specs.Color.{same_loc, is_member}
 use Rattle.theorems.proofs.Choice.{same_loc_lem}
 use Rattle.theorems.proofs.ReadSet.{member_snoc}
-use Rattle.theorems.proofs.Update.{same_or}
 use Rattle.sets.specs.Sets.{is_near, cell_of, bit_at, with_bit, Indexed, noted}
 use Rattle.colours.specs.Masks.{has_bit}
 use Rattle.colours.proofs.Bits.{has_none, has_with}

@@ -175,24 +175,26 @@ module _ (ms : List Loc) (table : List ℕ) (first j : ℕ) where
 -- ---- the set
 
 -- it holds its own members
-pub holds_own : (s : ReadSet) → SetHolds s (members_in s) s.words.now
+pub holds_own : (s : ReadSet) → SetHolds s (members_in s) s
 holds_own s =
     record {
+      same = refl;
       members = refl;
       words = sym (words_same s.words.now s.len s.room);
       fits = rw (pairs_length s.words.now 0 s.len) s.room;
     }
 
-module _ {s : ReadSet} {ms : List Loc} {before : List ℕ} (h : SetHolds s ms before) where
-  pub holds_length : length s.words.now ≡ length before
-  holds_length = ap length h.words ∙ over_length (words_of ms) before (rw (words_length ms) h.fits)
+module _ {s : ReadSet} {ms : List Loc} {before : ReadSet} (h : SetHolds s ms before) where
+  pub holds_length : length s.words.now ≡ length before.words.now
+  holds_length = ap length h.words ∙ over_length (words_of ms) before.words.now (rw (words_length ms) h.fits)
 
   -- the words of a set that grows
-  pub holds_more : {s' : ReadSet} {ks : List Loc} → length ms ≤ length ks → SetHolds s' ks s.words.now → SetHolds s' ks before
+  pub holds_more : {s' : ReadSet} {ks : List Loc} → length ms ≤ length ks → SetHolds s' ks s → SetHolds s' ks before
   holds_more {s'} {ks} grows h' =
       record {
+        same = h'.same ∙ h.same;
         members = h'.members;
-        words = h'.words ∙ (ap (over (words_of ks)) h.words ∙ over_over (words_of ks) (words_of ms) before (rw (words_length ms, words_length ks) (omega (arith, grows))));
+        words = h'.words ∙ (ap (over (words_of ks)) h.words ∙ over_over (words_of ks) (words_of ms) before.words.now (rw (words_length ms, words_length ks) (omega (arith, grows))));
         fits = rw (← holds_length) h'.fits;
       }
 

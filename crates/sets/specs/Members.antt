@@ -1,5 +1,5 @@
 -- Inner: the read set as the list of its members, in joining order.
-use Rattle.std.specs.Prelude.{ℕ, ◌*◌, ◌≤◌, List, ◌≡◌, length}
+use Rattle.std.specs.Prelude.{◌*◌, ◌≤◌, List, ◌≡◌, length}
 use Rattle.mir.specs.Answers.{over}
 use Rattle.passes.specs.declared.symbol.Loc.{Loc}
 use Rattle.passes.specs.Color.{pairs_from}
@@ -9,8 +9,9 @@ use Rattle.sets.specs.declared.ReadSet.{ReadSet}
 abbrev pub members_in : ReadSet → List Loc
 members_in s = pairs_from s.words.now 0 s.len
 
--- the set has these members, written over what its words held before
-pub record SetHolds (s : ReadSet) (ms : List Loc) (before : List ℕ) : Type 0 where
+-- the set has these members, written over what its words held before; the words are lent as they were
+pub record SetHolds (s : ReadSet) (ms : List Loc) (before : ReadSet) : Type 0 where
+  pub same : s.words.ghost_name ≡ before.words.ghost_name
   pub members : members_in s ≡ ms
-  pub words : s.words.now ≡ over (words_of ms) before
-  pub fits : length ms * 2 ≤ length before
+  pub words : s.words.now ≡ over (words_of ms) before.words.now
+  pub fits : length ms * 2 ≤ length before.words.now

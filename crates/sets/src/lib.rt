@@ -2,7 +2,7 @@
 // and without repeats.
 #![tactic(auto)]
 
-ghost use Rattle.std.specs.Prelude.{◌+◌, ◌*◌, ◌/◌, ◌<◌, ◌≤◌, [], true, ◌≡◌, length};
+ghost use Rattle.std.specs.Prelude.{◌+◌, ◌*◌, ◌/◌, ◌<◌, ◌≤◌, [], true, cond, Some, None, ◌≡◌, length};
 ghost use Rattle.sets.specs.Sets.{Indexed, is_near, cell_of, bit_at, with_bit, noted, pair_at};
 ghost use Rattle.passes.specs.Color.{pairs_from, is_member, join, joined};
 
@@ -19,19 +19,15 @@ fn loc_at(words: &[u32], j: usize) -> Loc
     }
 }
 
-// Whether the index has a bit for the location.
-fn is_near(l: Loc) -> bool
-    ensures { result ≡ is_near l }
+// The place of the location's bit, if the index has one.
+fn cell(l: Loc) -> Option<usize>
+    ensures { result ≡ cond (is_near l) (Some (cell_of l)) None }
 {
-    l.space < 3 && l.index < 65_536
-}
-
-// The place of its bit.
-fn cell(l: Loc) -> usize
-    requires { is_near l ≡ true }
-    ensures { result ≡ cell_of l }
-{
-    (l.space as usize) * 65_536 + (l.index as usize)
+    if l.space < 3 && l.index < 65_536 {
+        Some((l.space as usize) * 65_536 + (l.index as usize))
+    } else {
+        None
+    }
 }
 
 // Whether the bit at place `c` is set.
@@ -54,8 +50,8 @@ fn set_bit(seen: &mut [u64; 3_072], c: usize)
 fn note(seen: &mut [u64; 3_072], l: Loc)
     ensures { seen.new ≡ noted l seen.old }
 {
-    if is_near(l) {
-        set_bit(seen, cell(l));
+    if let Some(c) = cell(l) {
+        set_bit(seen, c);
     }
 }
 
@@ -110,18 +106,17 @@ impl<'a> ReadSet<'a> {
     pub fn contains(&self, l: Loc) -> bool
         ensures { result ≡ is_member l (members_in self.now) }
     {
-        if is_near(l) {
-            return bit_at(&self.seen, cell(l));
+        match cell(l) {
+            Some(c) => bit_at(&self.seen, c),
+            None => self.scan(l),
         }
-        self.scan(l)
     }
 
     /// The location joins, unless it is a member already.
     #[tactic(auto, using(crate::proofs::Pairs::insert_rules))]
     pub fn insert(&mut self, l: Loc)
         requires { length (join (members_in self.old) l) * 2 ≤ length self.old.words.now }
-        ensures same_reference { self.new.words.ghost_name ≡ self.old.words.ghost_name }
-        ensures holds { SetHolds self.new (join (members_in self.old) l) self.old.words.now }
+        ensures { SetHolds self.new (join (members_in self.old) l) self.old }
     {
         if self.contains(l) {
             return;
@@ -138,8 +133,7 @@ impl<'a> ReadSet<'a> {
     pub fn extend(&mut self, table: &[u32], first: u32, count: u32)
         requires count_in_bounds { first + count ≤ length table.now / 2 }
         requires room { length (joined (members_in self.old) (pairs_from table.now first count)) * 2 ≤ length self.old.words.now }
-        ensures same_reference { self.new.words.ghost_name ≡ self.old.words.ghost_name }
-        ensures holds { SetHolds self.new (joined (members_in self.old) (pairs_from table.now first count)) self.old.words.now }
+        ensures { SetHolds self.new (joined (members_in self.old) (pairs_from table.now first count)) self.old }
     {
         let from = first as usize;
         for j in 0..count as usize {

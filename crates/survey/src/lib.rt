@@ -10,7 +10,7 @@ ghost use Rattle.mir.specs.Records.{max_regs};
 
 use mir::config::Settings;
 use mir::questions::{check_shape, check_sizes};
-use mir::record::records_of;
+use mir::record::{Record, records_of};
 use mir::refusal::Refusal;
 use mir::shape::{BRANCH_IF, Dests, LABEL, dests_of};
 
@@ -49,9 +49,9 @@ fn two_bits(x: u32, y: u32) -> u64
 }
 
 // The mask of the registers that a record counts.
-fn get_dst(rec: [u32; 8]) -> u64
-    requires { gens_fit max_regs rec ≡ true }
-    ensures { result ≡ get_dst rec }
+fn get_dst(rec: &Record) -> u64
+    requires { gens_fit max_regs rec.now ≡ true }
+    ensures { result ≡ get_dst rec.now }
 {
     let kind = rec[0];
     match kind {
@@ -65,15 +65,15 @@ fn get_dst(rec: [u32; 8]) -> u64
 }
 
 // Whether a record is the Label with the number `label`.
-fn is_label(rec: [u32; 8], label: u32) -> bool
-    ensures { result ≡ is_label label rec }
+fn is_label(rec: &Record, label: u32) -> bool
+    ensures { result ≡ is_label label rec.now }
 {
     rec[0] == LABEL && rec[1] == label
 }
 
 // The place found so far, once record `i` has been looked at.
-fn later_label(found: Option<u32>, rec: [u32; 8], i: u32, label: u32) -> Option<u32>
-    ensures { place_in result ≡ cond (is_label label rec) (i ∷ []) (place_in found) }
+fn later_label(found: Option<u32>, rec: &Record, i: u32, label: u32) -> Option<u32>
+    ensures { place_in result ≡ cond (is_label label rec.now) (i ∷ []) (place_in found) }
 {
     if is_label(rec, label) { Some(i) } else { found }
 }
@@ -98,14 +98,13 @@ fn survey_records(
 {
     let mut mask = 0;
     let mut place = None;
-    for (i, &rec) in records_of(list).iter().enumerate() {
-        let answer = check_shape(rec, table, settings.count_regs);
-        if let Err(question) = answer {
+    for (i, rec) in records_of(list).iter().enumerate() {
+        // Not `map_err` and `?`: the proof does not reach what a closure gives there.
+        if let Err(question) = check_shape(rec, table, settings.count_regs) {
             return Err(question.of_record(i as u32));
         }
         mask |= get_dst(rec);
-        let later = later_label(place, rec, i as u32, label);
-        place = later;
+        place = later_label(place, rec, i as u32, label);
     }
     let used = used_mask(mask, settings.compress);
     Ok(Registers {

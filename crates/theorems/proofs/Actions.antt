@@ -8,10 +8,10 @@ use mathlib.Core.Path.{◌≡◌, refl, sym, ap, subst, ◌∙◌}
 use lib.ListN.{get_or}
 use denote.Enum.Declared.{tag_of}
 use types.Run.{OneOf}
+use Rattle.mir.proofs.Clash.{same_or}
 use Rattle.mir.specs.contracts.shape.Action.{the_type}
 use Rattle.mir.specs.declared.shape.Action.{Action}
 use Rattle.mir.specs.declared.shape.Action.TheVariants as action
-use Rattle.theorems.proofs.Update.{same_or}
 
 abbrev pub tag : Action → ℕ
 tag a = tag_of the_type a

@@ -11,14 +11,14 @@ use native.Mathlib.Omega.{arith}
 use lib.ListN.{length, get_or, set, get_or-append, get_or-eq_default}
 use lib.Seq.{get_or-set_same, get_or-set_other, get_or-append_seam}
 use native.Mathlib.Decide.{dec_lt}
-use Rattle.mir.proofs.Clash.{clash}
+use Rattle.mir.proofs.Clash.{clash, same_or}
 use Rattle.passes.specs.declared.alloc.Alloc.{Alloc}
 use Rattle.passes.specs.declared.symbol.Loc.{Loc}
 use Rattle.passes.specs.Color.{alloc, colour_at, assign}
 use Rattle.passes.specs.Machine.{State, write}
 use Rattle.theorems.proofs.Create.{Names}
 use Rattle.theorems.proofs.Sim.{Sim, Assigned, into_gen}
-use Rattle.theorems.proofs.Update.{upd, upd_at, upd_else, same_or}
+use Rattle.theorems.proofs.Update.{upd, upd_at, upd_else}
 
 -- a register's static, a static's colour and end, and a colour's location, from the lists
 abbrev pub static_in : List (Option ℕ) → ℕ → Option ℕ

@@ -2,7 +2,7 @@
 -- record, and a static that no register holds any more has its end behind it.
 -- By induction on the records, one destination and one source at a time.
 use Rattle.std.specs.Prelude.{Option, Some, None}
-use Prim.Native.Nat.{ℕ, zero, suc, ◌+◌, ◌-◌, ◌≤◌, ◌<◌}
+use Prim.Native.Nat.{ℕ, zero, suc, ◌+◌, ◌-◌, ◌*◌, ◌≤◌, ◌<◌}
 use mathlib.Core.Bool.{Bool, true, false, cond, ◌||◌}
 use mathlib.Core.List.{List, [], ◌∷◌}
 use mathlib.Core.Logic.{◌⊎◌, inl, inr, ⊎_elim}
@@ -12,29 +12,14 @@ use native.Mathlib.Omega.{arith}
 use native.Mathlib.Decide.{dec_lt}
 use lib.Dec.{eqb}
 use lib.ListN.{length, get_or, set, replicate, length-append, length-set, length-replicate, get_or-append, get_or-replicate}
-use lib.Seq.{get_or-set_same, get_or-set_other, set_out, get_or-append-add}
+use lib.Seq.{get_or-set_same, get_or-set_other, get_or-append-add}
 use Rattle.std.specs.List.{list_all}
-use Rattle.mir.specs.Records.{records, record_at, word_at, is_gen, max_regs}
+use Rattle.mir.specs.Records.{records, record_at, word_at, is_gen}
 use Rattle.mir.specs.Renaming.{fresh, one, produce, gens, produced, renamed, statics_to, regs_to}
 use Rattle.mir.specs.Shapes.{call, label, dests, sources}
-use Rattle.mir.proofs.Clash.{clash}
-use Rattle.mir.proofs.Renaming.{and_both}
+use Rattle.mir.proofs.Renaming.{and_both, set_cases, not_fresh, held_set, known_set, statics_two}
 use Rattle.passes.specs.Create.{ended_at, consume, consumed, ends_to, ends_of}
-use Rattle.theorems.proofs.Update.{same_or, never_falls}
-
--- ---- lists
-
--- what stands at r after a store at w: what was stored, where r is w, or what stood there
-pub set_cases {ℓ} : {A : Type ℓ} (l : List A) (w : ℕ) (x d : A) (r : ℕ)
-    → ((r ≡ w) × (get_or (set l w x) r d ≡ x)) ⊎ (get_or (set l w x) r d ≡ get_or l r d)
-set_cases l w x d r = ⊎_elim at_w (λ (h : r ≡ w → ⊥). inr (get_or-set_other l w r x d h)) (same_or r w)
-  where
-    inside : Dec (w < length l) → r ≡ w → ((r ≡ w) × (get_or (set l w x) r d ≡ x)) ⊎ (get_or (set l w x) r d ≡ get_or l r d)
-    inside (yes h) e = inl (e, rw e (get_or-set_same l w x d h))
-    inside (no h) e = inr (rw (set_out l w x (omega (arith, h))))
-
-    at_w : r ≡ w → ((r ≡ w) × (get_or (set l w x) r d ≡ x)) ⊎ (get_or (set l w x) r d ≡ get_or l r d)
-    at_w e = inside (dec_lt w (length l)) e
+use Rattle.theorems.proofs.Update.{never_falls}
 
 -- ---- the registers' statics
 
@@ -42,37 +27,16 @@ pub record Names (regs : List (Option ℕ)) (m : ℕ) : Type 0 where
   pub below : (r s : ℕ) → get_or regs r None ≡ Some s → s < m
   pub once : (r q s : ℕ) → get_or regs r None ≡ Some s → get_or regs q None ≡ Some s → r ≡ q
 
-unset_fresh : (k r : ℕ) → get_or {A = Option ℕ} (replicate k None) r None ≡ None
-unset_fresh zero r = refl
-unset_fresh (suc k) zero = refl
-unset_fresh (suc k) (suc r) = unset_fresh k r
-
-pub not_fresh : (r s : ℕ) → get_or fresh r None ≡ Some s → ⊥
-not_fresh r s e =
-    let u = unset_fresh max_regs r in
-    clash (cc)
-
 names_fresh : (m : ℕ) → Names fresh m
 names_fresh m = record { below = λ r s e. absurd (not_fresh r s e); once = λ r q s e f. absurd (not_fresh r s e) }
 
 -- one destination: its register holds the new static, which is above all others
 module _ (w m : ℕ) (regs : List (Option ℕ)) (names : Names regs m) where
   pub names_set : Names (set regs w (Some m)) (suc m)
-  names_set = record { below = below; once = once }
+  names_set = record { below = known_set w m regs names.below; once = once }
     where
       held : (r s : ℕ) → get_or (set regs w (Some m)) r None ≡ Some s → ((r ≡ w) × (m ≡ s)) ⊎ (get_or regs r None ≡ Some s)
-      held r s e =
-          ⊎_elim
-          (λ (a : (r ≡ w) × (get_or (set regs w (Some m)) r None ≡ Some m)).
-          let f = a.1 in
-          let q : m ≡ s = cc in
-          inl (a.0, q))
-          (λ (a : get_or (set regs w (Some m)) r None ≡ get_or regs r None). inr (sym a ∙ e)) (set_cases regs w (Some m) None r)
-
-      below : (r s : ℕ) → get_or (set regs w (Some m)) r None ≡ Some s → s < suc m
-      below r s e =
-          ⊎_elim (λ (a : (r ≡ w) × (m ≡ s)). omega (arith, a.1))
-          (λ (a : get_or regs r None ≡ Some s). omega (arith, names.below r s a)) (held r s e)
+      held = held_set w m regs
 
       once : (r q s : ℕ) → get_or (set regs w (Some m)) r None ≡ Some s → get_or (set regs w (Some m)) q None ≡ Some s → r ≡ q
       once r q s e f =
@@ -157,7 +121,7 @@ module _ (regs : List (Option ℕ)) (i : ℕ) where
   ended_length (Some s) ends = length-set ends s i
   ended_length None ends = refl
 
-  consume_length : (w : ℕ) (ends : List ℕ) → length (consume regs i w ends) ≡ length ends
+  pub consume_length : (w : ℕ) (ends : List ℕ) → length (consume regs i w ends) ≡ length ends
   consume_length w ends = go (is_gen w)
     where
       go : (b : Bool) → length (cond b (ended_at (get_or regs w None) i ends) ends) ≡ length ends
@@ -233,6 +197,14 @@ ends_length list (suc i) =
     let c = consumed (regs_to list i) i (sources rec) (ends_to list i) in
     length-append c (replicate (gens (dests rec)) i)
     ∙ rw (length-replicate (gens (dests rec)) i, consumed_length (regs_to list i) i (sources rec) (ends_to list i), ends_length list i)
+
+-- all ends, which a slice has room for that has room for two a record
+pub ends_count : (list : List ℕ) → length (ends_of list) ≡ statics_to list (records list)
+unfolding ends_of
+ends_count list = ends_length list (records list)
+
+pub ends_fit : (list : List ℕ) {n : ℕ} → records list * 2 ≤ n → length (ends_of list) ≤ n
+ends_fit list h = omega (arith, ends_count list, statics_two list (records list), h)
 
 module _ (list : List ℕ) (i : ℕ) where
   after : List ℕ

@@ -12,14 +12,13 @@ use Rattle.mir.specs.declared.config.Settings.{Settings}
 use Rattle.mir.specs.Records.{records, record_at, is_gen}
 use Rattle.mir.specs.Renaming.{regs_to}
 use Rattle.mir.specs.Shapes.{sources}
-use Rattle.mir.proofs.Clash.{clash}
+use Rattle.mir.proofs.Clash.{clash, same_or}
 use Rattle.mir.proofs.Passing.{ListPasses}
 use Rattle.passes.specs.Color.{setup, colour_at, source_word, sources_at, color_to}
 use Rattle.passes.specs.Create.{ends_of}
 use Rattle.theorems.proofs.Create.{In, names_to, read_last}
 use Rattle.theorems.proofs.NeverEmpty.{ready_to}
 use Rattle.theorems.proofs.Pool.{Owned}
-use Rattle.theorems.proofs.Update.{same_or}
 
 pub in_map : (f : ℕ → ℕ) (ws : List ℕ) (w : ℕ) → In w ws → In (f w) (map f ws)
 in_map f [] w m = m

@@ -2,6 +2,7 @@
 -- and ended equal. The reduced run makes the step too if the record is kept, and waits if it is dropped.
 -- A record of a straight kind has its law (`step`). To a Label control may come from anywhere, so there only what everybody looks at is
 -- the same; a branch leaves that as it is, and past a BranchIf nothing that was written before it is still to be read.
+use Rattle.mir.proofs.Renaming.{not_fresh}
 use Rattle.std.specs.Prelude.{Some}
 use Prim.Native.Nat.{ℕ, suc, ◌≤◌, ◌<◌}
 use mathlib.Core.Bool.{Bool, true, false, cond, ◌||◌}
@@ -24,7 +25,7 @@ use Rattle.passes.specs.Contract.{outcome_of, outcome_at, out_at, reduced}
 use Rattle.passes.specs.Create.{ends_of}
 use Rattle.passes.specs.Machine.{Meaning, State, Point, effect, turn, jumps, target, step, is_straight, is_covered}
 use Rattle.theorems.proofs.Assign.{static_in, number_in}
-use Rattle.theorems.proofs.Create.{names_to, not_fresh}
+use Rattle.theorems.proofs.Create.{names_to}
 use Rattle.theorems.proofs.Ends.{straight_goes_on, turn_runs}
 use Rattle.theorems.proofs.Landing.{last_holds, label_kind, kept, place, place_next, kept_record, target_same}
 use Rattle.theorems.proofs.OneRecord.{Same, Running, running_same, Place, reset_after, source_same}

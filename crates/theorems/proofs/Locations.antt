@@ -1,6 +1,7 @@
 -- What an action does to the colours after the destinations: lives stay but for a reset, and Save gives its location to
 -- the source's colour alone.
 -- By the laws of `map` and `set` at one colour.
+use Rattle.mir.proofs.Renaming.{set_cases}
 use Rattle.std.specs.Prelude.{Some, None}
 use Prim.Native.Nat.{ℕ, zero, suc}
 use mathlib.Core.Bool.{Bool, true, false, cond}
@@ -16,7 +17,6 @@ use Rattle.mir.proofs.Passing.{map_set}
 use Rattle.passes.specs.declared.alloc.Alloc.{Alloc}
 use Rattle.passes.specs.declared.symbol.Loc.{Loc}
 use Rattle.passes.specs.Color.{alloc, colour_at, same_loc, holds, without, clear, give, update_allocs, partner, blank}
-use Rattle.theorems.proofs.Create.{set_cases}
 
 -- ---- clearing a location
 

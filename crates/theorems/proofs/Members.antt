@@ -10,6 +10,7 @@ use native.Mathlib.Omega.{arith}
 use lib.Dec.{leb}
 use lib.ListN.{length, get_or}
 use borrow.Author.Tests.{leb-true, eq-eqb}
+use Rattle.mir.proofs.Clash.{same_or}
 use Rattle.mir.specs.declared.config.Settings.{Settings}
 use Rattle.mir.specs.declared.shape.Action.{Action}
 use Rattle.mir.specs.declared.shape.Action.TheVariants as action
@@ -23,7 +24,6 @@ use Rattle.mir.proofs.Shapes.{args_kind}
 use Rattle.passes.specs.declared.symbol.Loc.{Loc}
 use Rattle.passes.specs.Color.{Setup, setup, loc, pairs_from, reads, is_member, join, joined, color_to}
 use Rattle.theorems.proofs.Actions.{same_action}
-use Rattle.theorems.proofs.Update.{same_or}
 use Rattle.theorems.proofs.ReadSet.{InLocs, reads_at, members_next, Once, member_append, member_last, joined_keeps, joined_once, joined_more}
 
 -- how many places of the table hold a member

@@ -22,14 +22,14 @@ use Rattle.mir.specs.Renaming.{fresh, gens, produced, renamed, statics_to, regs_
 use Rattle.mir.specs.Shapes.{call, label, shape_of, shape_for, dests, sources}
 use Rattle.mir.proofs.Clash.{clash}
 use Rattle.mir.proofs.Passing.{ListPasses, list_passes}
-use Rattle.mir.proofs.Renaming.{gens_fit_both, regs_length}
+use Rattle.mir.proofs.Renaming.{gens_fit_both, regs_length, not_fresh}
 use Rattle.passes.specs.declared.alloc.Alloc.{Alloc}
 use Rattle.passes.specs.Color.{Setup, setup, Coloring, colour_at, wanted, source_word, update_allocs, loc_of, HavePools, after_dests}
 use Rattle.passes.specs.Color.{sources_at, dests_at, color_step, color_to}
 use Rattle.passes.specs.Create.{ends_of}
 use Rattle.passes.specs.Machine.{Passing}
 use Rattle.theorems.proofs.Actions.{same_action}
-use Rattle.theorems.proofs.Create.{In, all_in, names_to, not_fresh, gone_end}
+use Rattle.theorems.proofs.Create.{In, all_in, names_to, gone_end}
 use Rattle.theorems.proofs.Pool.{Owner, Owned, Below, words, Before, After, walk}
 use Rattle.theorems.proofs.Locations.{update_life, update_length, blank_life}
 

@@ -8,7 +8,7 @@ use native.Mathlib.Decide.{dec_lt}
 use native.Mathlib.Omega.{arith}
 use lib.Dec.{eqb}
 use borrow.Author.Tests.{eq-eqb, ne_eqb}
-use Rattle.theorems.proofs.Update.{same_or}
+use Rattle.mir.proofs.Clash.{same_or}
 
 -- different numbers up to n go to different numbers
 Apart : ℕ → (ℕ → ℕ) → Type 0

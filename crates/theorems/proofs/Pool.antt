@@ -19,7 +19,7 @@ use Rattle.passes.specs.declared.alloc.Choice.{Choice}
 use Rattle.passes.specs.declared.alloc.Choice.TheVariants.{Found, Free, Empty}
 use borrow.Author.Tests.{le-leb, ltb-true, lt-ltb}
 use lib.Dec.{ltb}
-use Rattle.mir.proofs.Clash.{clash}
+use Rattle.mir.proofs.Clash.{clash, same_or}
 use Rattle.mir.proofs.Folds.{below_suc}
 use Rattle.mir.proofs.Renaming.{and_both, gen_below}
 use Rattle.std.specs.List.{list_all}
@@ -31,7 +31,6 @@ use Rattle.passes.specs.Color.{words_for, after_dest, after_dests}
 use Rattle.theorems.proofs.Choice.{choose_free, choose_found, choose_empty}
 use Rattle.theorems.proofs.Create.{Names, names_set, produced_old}
 use Rattle.theorems.proofs.Pigeon.{no_room}
-use Rattle.theorems.proofs.Update.{same_or}
 
 -- who owns colour c: a register below n, its static, whose colour is c and whose end is the colour's life
 pub record Owner (n : ℕ) (E : List ℕ) (regs : List (Option ℕ)) (colours : List ℕ) (c life : ℕ) : Type 0 where

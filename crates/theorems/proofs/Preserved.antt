@@ -9,6 +9,7 @@ use mathlib.Core.Logic.{◌⊎◌, inl, inr, ⊎_elim}
 use mathlib.Core.Path.{◌≡◌, refl, subst, ◌∙◌}
 use native.Mathlib.Decide.{dec_lt}
 use native.Mathlib.Omega.{arith}
+use Rattle.mir.proofs.Renaming.{not_fresh}
 use Rattle.mir.specs.declared.config.Settings.{Settings}
 use Rattle.mir.specs.Records.{records, record_at, word_at}
 use Rattle.mir.specs.Renaming.{regs_to}
@@ -17,7 +18,6 @@ use Rattle.passes.specs.Color.{color_to}
 use Rattle.passes.specs.Contract.{reduced, count_to}
 use Rattle.passes.specs.Machine.{Meaning, State, Point, first, run, step, ended, onward, steps_to, EndsIn, on_words}
 use Rattle.passes.specs.Machine.{is_scalar, AllScalar, is_straight, AllStraight, is_covered, AllCovered, Passing, EndsEqual, RunsEqual, KeepsUp, RunsKeepUp, Preserves}
-use Rattle.theorems.proofs.Create.{not_fresh}
 use Rattle.theorems.proofs.Ends.{not_both, runs, over_ended, past_ended, onward_ended, onward_runs, first_end, ends_once, straight_runs}
 use Rattle.theorems.proofs.Jumps.{Met, Meets, meets_next}
 use Rattle.theorems.proofs.Landing.{kept, place_end, kept_inside}

@@ -2,6 +2,7 @@
 -- sort of record keeps it.
 -- Everything is a plain function of a number here: a register's static, a static's colour and end, a colour's location.
 -- A record changes a function in one place, and a colour that is chosen free is none that is needed later.
+use Rattle.mir.proofs.Clash.{same_or}
 use Rattle.std.specs.Prelude.{Option, Some}
 use Prim.Native.Nat.{ℕ, suc, ◌≤◌, ◌<◌}
 use mathlib.Core.Logic.{◌⊎◌, inl, inr, ⊎_elim}
@@ -10,7 +11,7 @@ use native.Mathlib.Omega.{arith}
 use borrow.Author.Tests.{eq-eqb, ne_eqb}
 use Rattle.passes.specs.declared.symbol.Loc.{Loc}
 use Rattle.passes.specs.Machine.{State, write, store}
-use Rattle.theorems.proofs.Update.{upd, upd_at, upd_else, same_or}
+use Rattle.theorems.proofs.Update.{upd, upd_at, upd_else}
 
 -- ---- cells
 

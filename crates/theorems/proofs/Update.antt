@@ -1,13 +1,14 @@
 -- A function with another value at one place: what it gives there, and elsewhere; and one that never falls.
 -- By the test of two numbers; by induction on how far apart they are.
 use Prim.Native.Nat.{ℕ, zero, suc, ◌+◌, ◌≤◌}
-use mathlib.Core.Bool.{Bool, true, false, cond}
+use mathlib.Core.Bool.{cond}
 use mathlib.Core.Logic.{◌⊎◌, inl, inr}
 use mathlib.Core.Path.{◌≡◌, refl}
 use native.Mathlib.Nat.{zero-add, suc-add}
 use native.Mathlib.Omega.{arith}
 use lib.Dec.{eqb}
-use borrow.Author.Tests.{eq-eqb, ne_eqb, eqb-true, eqb-false}
+use borrow.Author.Tests.{eq-eqb, ne_eqb}
+use Rattle.mir.proofs.Clash.{same_or}
 
 abbrev pub upd {ℓ} : {A : Type ℓ} → (ℕ → A) → ℕ → A → ℕ → A
 upd f k a x = cond (eqb x k) a (f x)
@@ -17,13 +18,6 @@ upd_at f k a = rw (eq-eqb k k refl)
 
 pub upd_else {ℓ} : {A : Type ℓ} (f : ℕ → A) (k : ℕ) (a : A) (x : ℕ) → (x ≡ k → ⊥) → upd f k a x ≡ f x
 upd_else f k a x h = rw (ne_eqb x k h)
-
-pub same_or : (x k : ℕ) → (x ≡ k) ⊎ (x ≡ k → ⊥)
-same_or x k = go (eqb x k) refl
-  where
-    go : (b : Bool) → eqb x k ≡ b → (x ≡ k) ⊎ (x ≡ k → ⊥)
-    go true e = inl (eqb-true x k e)
-    go false e = inr (eqb-false x k e)
 
 -- a value that stands there already changes nothing
 pub upd_own {ℓ} : {A : Type ℓ} (f : ℕ → A) (k : ℕ) (a : A) → f k ≡ a → (x : ℕ) → f x ≡ upd f k a x

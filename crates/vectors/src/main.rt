@@ -32,6 +32,7 @@ const FILL: u32 = 2_779_096_485;
 
 // Puts the next words, their number first, at the start of `space`, and answers them; none if they had no room there.
 fn words<'a, R: Read>(input: &mut R, space: &'a mut [u32]) -> io::Result<Option<&'a [u32]>>
+    ensures fits { IfOk result (λ o. IfSome o (λ w. length w.now ≤ length space.entry.now)) }
     ensures room { IfOk result (λ o. IfSome (R.remaining input.old) (λ bytes. IsSome o ↔ (word_in bytes 0 ≤ length space.entry.now))) }
     ensures len { IfOk result (λ o. IfSome (R.remaining input.old) (λ bytes. IfSome o (λ w. length w.now ≡ word_in bytes 0))) }
 {

@@ -14,4 +14,4 @@ lent out colours ends set = record { out = out; colours = colours; ends = ends; 
 
 -- the seven counts, in section 4's order
 abbrev pub values_in : Counts → List ℕ
-values_in c = c.records ∷ c.statics ∷ c.members ∷ c.nops ∷ c.loads ∷ c.moves ∷ c.saves ∷ []
+values_in c = c.tally.records ∷ c.statics ∷ c.members ∷ c.tally.nops ∷ c.tally.loads ∷ c.tally.moves ∷ c.tally.saves ∷ []

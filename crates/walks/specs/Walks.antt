@@ -1,5 +1,5 @@
 -- Inner: what the last walk and all walks together do to the lent slices.
-use Rattle.std.specs.Prelude.{ℕ, ◌+◌, ◌*◌, ◌/◌, ◌%◌, ◌<◌, ◌≤◌, Bool, cond, List, [], ◌∷◌, ◌++◌, ◌≡◌, length, get_or, set, take, drop, Option}
+use Rattle.std.specs.Prelude.{ℕ, ◌+◌, ◌*◌, ◌/◌, ◌<◌, ◌≤◌, Bool, cond, List, [], ◌∷◌, ◌++◌, ◌≡◌, length, get_or, take, drop, Option}
 use Rattle.mir.specs.declared.config.Settings.{Settings}
 use Rattle.mir.specs.Records.{records, is_gen}
 use Rattle.mir.specs.Renaming.{one}
@@ -37,11 +37,6 @@ rewritten regs n colours rec =
     take shape.regs rec
     ++ (dest_words (dests rec) n colours
     ++ (source_words regs colours rec ++ drop (shape.regs + (shape.dsts + shape.srcs)) rec))
-
--- the marks of destinations, from static n on, taken away
-unfoldable pub unmarked : List ℕ → ℕ → List ℕ → List ℕ
-unmarked [] n ends = ends
-unmarked (w ∷ ws) n ends = unmarked ws (n + one w) (cond (is_gen w) (set ends n (get_or ends n 0 % 65536)) ends)
 
 -- one record more
 abbrev pub tallied : Outcome → Tally → Tally

@@ -1,10 +1,9 @@
 // The last walk (document 01, section 4): the records that are kept, in colours.
-ghost use Rattle.std.specs.Prelude.{ℕ, ◌+◌, ◌*◌, ◌<◌, ◌≤◌, ◌%◌, true, cond, ◌&&◌, ◌||◌, not, List, map, ◌≡◌, length, get_or, set, take, drop};
+ghost use Rattle.std.specs.Prelude.{ℕ, ◌+◌, ◌*◌, ◌<◌, ◌≤◌, ◌%◌, true, cond, ◌&&◌, ◌||◌, List, map, ◌≡◌, length, get_or, drop};
 ghost use Rattle.std.proofs.lemmas.List.Edits.{sets};
 ghost use Rattle.mir.specs.Answers.{over};
-ghost use Rattle.lives.specs.Lives.{KnownIn};
 ghost use Rattle.sets.specs.Members.{members_in};
-ghost use Rattle.walks.specs.Walks.{Colored, Contracted, Short, dest_words, rewritten, outcome_in, unmarked, tallied, put_if};
+ghost use Rattle.walks.specs.Walks.{Colored, Contracted, Short, dest_words, rewritten, outcome_in, tallied, put_if};
 ghost use Rattle.mir.specs.Questions.{partner_fits};
 ghost use Rattle.mir.specs.Records.{is_gen};
 ghost use Rattle.mir.specs.Shapes.{any, dests, shape_for};
@@ -15,9 +14,9 @@ ghost use Rattle.passes.specs.declared.alloc.Outcome.TheVariants as outcomes;
 
 use coloring::{FOUND, deallocate, loc_of, was_found};
 use colours::allocs::partner;
-use mir::config::{MAX_REGS, Settings};
-use mir::record::records_of;
-use mir::rename::{count_static, count_statics, rename};
+use mir::config::Settings;
+use mir::record::{Record, records_of};
+use mir::rename::{Renaming, count_static};
 use mir::shape::{Dests, LOAD, LOAD_COMPLEX, MOV, NOP, SAVE, SAVE_COMPLEX, dests_of, shape_of};
 use passes::alloc::Outcome;
 use passes::symbol::Loc;
@@ -31,14 +30,14 @@ fn dest_word(w: u32, next: usize, colours: &[u32]) -> u32
     if w < 256 { colours[next] } else { w }
 }
 
-// A record with its destinations in colours.
-fn rewrite_dests(rec: [u32; 8], next: usize, colours: &[u32]) -> [u32; 8]
+// A record with its destinations in colours; y has the static after x's (mir/rename.rt has why it is counted here).
+fn rewrite_dests(rec: &Record, next: usize, colours: &[u32]) -> Record
     requires { next + 2 ≤ length colours.now }
-    ensures { result ≡ sets rec (shape_for rec).regs (dest_words (dests rec) next colours.now) }
+    ensures { result ≡ sets rec.now (shape_for rec.now).regs (dest_words (dests rec.now) next colours.now) }
 {
     let s = shape_of(rec[0]);
     let p = s.regs;
-    let mut out = rec;
+    let mut out = *rec;
     match dests_of(rec) {
         Dests::Nothing => out,
         Dests::One(x) => {
@@ -55,25 +54,24 @@ fn rewrite_dests(rec: [u32; 8], next: usize, colours: &[u32]) -> [u32; 8]
 }
 
 // Words in colours, each where it stood.
-fn recolour(words: &mut [u32], regs: &[Option<u32>; MAX_REGS], colours: &[u32])
-    requires { KnownIn regs.now (length colours.now) }
-    ensures { words.new ≡ map (source_word regs.now colours.now) words.old }
+fn recolour(words: &mut [u32], renaming: &Renaming, colours: &[u32])
+    requires { renaming.now.statics ≤ length colours.now }
+    ensures { words.new ≡ map (source_word renaming.now.regs colours.now) words.old }
 {
     for w in words.iter_mut() {
-        *w = deallocate(regs, *w, colours);
+        *w = deallocate(renaming, *w, colours);
     }
 }
 
-// A record in colours; `next` is its first static.
-fn rewrite(rec: [u32; 8], regs: &[Option<u32>; MAX_REGS], next: usize, colours: &[u32]) -> [u32; 8]
-    requires colours_room { next + 2 ≤ length colours.now }
-    requires known_in { KnownIn regs.now (length colours.now) }
-    ensures { result ≡ rewritten regs.now next colours.now rec }
+// A record in colours.
+fn rewrite(rec: &Record, renaming: &Renaming, colours: &[u32]) -> Record
+    requires { renaming.now.statics + 2 ≤ length colours.now }
+    ensures { result ≡ rewritten renaming.now.regs renaming.now.statics colours.now rec.now }
 {
     let s = shape_of(rec[0]);
     let from = s.regs + s.dsts;
-    let mut out = rewrite_dests(rec, next, colours);
-    recolour(&mut out[from..from + s.srcs], regs, colours);
+    let mut out = rewrite_dests(rec, renaming.statics, colours);
+    recolour(&mut out[from..from + s.srcs], renaming, colours);
     out
 }
 
@@ -100,9 +98,9 @@ fn drop_if(drop: bool, kind: Outcome) -> Outcome
 }
 
 // What becomes of a record in colours; `found` says that all its destinations were found.
-fn outcome_of(rec: [u32; 8], found: bool, fixed: u64, set: &ReadSet<'_>) -> Outcome
-    requires { partner_fits rec ≡ true }
-    ensures { result ≡ outcome_of fixed (members_in set.now) found rec }
+fn outcome_of(rec: &Record, found: bool, fixed: u64, set: &ReadSet<'_>) -> Outcome
+    requires { partner_fits rec.now ≡ true }
+    ensures { result ≡ outcome_of fixed (members_in set.now) found rec.now }
 {
     let kind = rec[0];
     match kind {
@@ -124,48 +122,27 @@ fn outcome_of(rec: [u32; 8], found: bool, fixed: u64, set: &ReadSet<'_>) -> Outc
     }
 }
 
-// The mark at the end of a static is taken away.
-fn unmark_static(w: u32, next: usize, ends: &mut [u32])
-    requires { next < length ends.old }
-    ensures { ends.new ≡ cond (is_gen w) (set ends.old next (get_or ends.old next 0 % 65536)) ends.old }
+// The marks at the ends of statics are taken away.
+fn unmark(ends: &mut [u32])
+    ensures { ends.new ≡ map (λ end. end % 65536) ends.old }
 {
-    if w < 256 {
-        ends[next] = ends[next] % FOUND;
-    }
-}
-
-// The marks of a record's statics are taken away.
-fn unmark(rec: [u32; 8], next: usize, ends: &mut [u32])
-    requires { next + 2 ≤ length ends.old }
-    ensures { ends.new ≡ unmarked (dests rec) next ends.old }
-{
-    match dests_of(rec) {
-        Dests::Nothing => {
-            return;
-        }
-        Dests::One(x) => {
-            unmark_static(x, next, ends);
-        }
-        Dests::Two(x, y) => {
-            unmark_static(x, next, ends);
-            let after = next + (count_static(x) as usize);
-            unmark_static(y, after, ends);
-        }
+    for end in ends.iter_mut() {
+        *end %= FOUND;
     }
 }
 
 // A record's words at the start of a slice.
-fn push(rec: [u32; 8], out: &mut [u32])
+fn push(rec: &Record, out: &mut [u32])
     requires { 8 ≤ length out.old }
-    ensures { out.new ≡ over rec out.old }
+    ensures { out.new ≡ over rec.now out.old }
 {
-    out[..8].copy_from_slice(&rec);
+    out[..8].copy_from_slice(rec);
 }
 
-// A record that is kept goes into the output's part from the next record on.
-fn keep(outcome: Outcome, rec: [u32; 8], at: usize, out: &mut [u32])
+// A record that is kept goes into the output's part from the next record on: the form that the rules name, of the slice that C lends.
+fn keep(outcome: Outcome, rec: &Record, at: usize, out: &mut [u32])
     requires { at + 8 ≤ length out.old }
-    ensures { out.new ≡ put_if (is_kept outcome) at rec out.old }
+    ensures { out.new ≡ put_if (is_kept outcome) at rec.now out.old }
 {
     match outcome {
         Outcome::Kept => push(rec, &mut out[at..]),
@@ -174,7 +151,7 @@ fn keep(outcome: Outcome, rec: [u32; 8], at: usize, out: &mut [u32])
 }
 
 // How many records were kept, and how many were dropped as what.
-#[derive(Clone, Copy)]
+#[derive(Clone, Copy, Default)]
 pub struct Tally {
     pub records: u32,
     pub nops: u32,
@@ -201,31 +178,27 @@ impl Tally {
 
 // One record: what it is rewritten to goes out, if it is kept, after the records that were.
 fn contract_record(
-    rec: [u32; 8],
-    regs: &[Option<u32>; MAX_REGS],
-    next: usize,
+    rec: &Record,
+    renaming: &Renaming,
     fixed: u64,
     colours: &[u32],
-    ends: &mut [u32],
+    ends: &[u32],
     set: &ReadSet<'_>,
     tally: &mut Tally,
     out: &mut [u32],
 )
-    requires partner_fits { partner_fits rec ≡ true }
-    requires colours_room { next + 2 ≤ length colours.now }
-    requires ends_room { next + 2 ≤ length ends.old }
-    requires known_in { KnownIn regs.now (length colours.now) }
+    requires partner_fits { partner_fits rec.now ≡ true }
+    requires colours_room { renaming.now.statics + 2 ≤ length colours.now }
+    requires ends_room { renaming.now.statics + 2 ≤ length ends.now }
     requires short { Short tally.old any }
     requires records_in_bounds { tally.old.records * 8 + 8 ≤ length out.old }
-    ensures tally { tally.new ≡ tallied (outcome_in fixed (members_in set.now) regs.now next colours.now ends.old rec) tally.old }
-    ensures ends { ends.new ≡ unmarked (dests rec) next ends.old }
-    ensures out { out.new ≡ put_if (is_kept (outcome_in fixed (members_in set.now) regs.now next colours.now ends.old rec)) (tally.old.records * 8) (rewritten regs.now next colours.now rec) out.old }
+    ensures tally { tally.new ≡ tallied (outcome_in fixed (members_in set.now) renaming.now.regs renaming.now.statics colours.now ends.now rec.now) tally.old }
+    ensures out { out.new ≡ put_if (is_kept (outcome_in fixed (members_in set.now) renaming.now.regs renaming.now.statics colours.now ends.now rec.now)) (tally.old.records * 8) (rewritten renaming.now.regs renaming.now.statics colours.now rec.now) out.old }
 {
-    let found = was_found(rec, next, ends);
-    unmark(rec, next, ends);
-    let written = rewrite(rec, regs, next, colours);
-    let outcome = outcome_of(written, found, fixed, set);
-    keep(outcome, written, (tally.records as usize) * 8, out);
+    let found = was_found(rec, renaming.statics, ends);
+    let written = rewrite(rec, renaming, colours);
+    let outcome = outcome_of(&written, found, fixed, set);
+    keep(outcome, &written, (tally.records as usize) * 8, out);
     tally.add(outcome);
 }
 
@@ -243,22 +216,13 @@ pub fn contract(
     ensures { (table : List ℕ) → Colored settings list.now table colours.now ends.old (members_in set.now) → Contracted settings list.now table result ends.old ends.new out.old out.new }
 {
     let fixed = settings.fixed();
-    let mut regs = [None; MAX_REGS];
-    let mut statics = 0;
-    let mut tally = Tally {
-        records: 0,
-        nops: 0,
-        loads: 0,
-        moves: 0,
-        saves: 0,
-    };
-    for &rec in records_of(list) {
-        let first = statics as usize;
-        contract_record(
-            rec, &regs, first, fixed, colours, ends, set, &mut tally, out,
-        );
-        rename(&mut regs, rec, statics);
-        statics += count_statics(rec);
+    let mut renaming = Renaming::new();
+    let mut tally = Tally::default();
+    for rec in records_of(list) {
+        contract_record(rec, &renaming, fixed, colours, ends, set, &mut tally, out);
+        let first = renaming.statics;
+        renaming.pass(rec);
+        unmark(&mut ends[first..renaming.statics]);
     }
     tally
 }

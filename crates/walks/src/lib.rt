@@ -1,10 +1,9 @@
 // The walks over a list that passes, one after the other: `create` of crate lives, `color` of crate coloring, and `contract`.
 #![tactic(auto)]
 
-ghost use Rattle.std.specs.Prelude.{◌≤◌, [], ◌∷◌, ◌≡◌, length};
-ghost use Rattle.mir.specs.Shapes.{any};
+ghost use Rattle.std.specs.Prelude.{length};
 ghost use Rattle.passes.specs.Machine.{Passing};
-ghost use Rattle.walks.specs.Lent.{lent, values_in};
+ghost use Rattle.walks.specs.Lent.{lent};
 ghost use Rattle.walks.specs.Walks.{Roomy, Reduces};
 
 pub mod contract;
@@ -18,28 +17,9 @@ use sets::ReadSet;
 // What the reduced list and the lent slices have, and what was dropped.
 #[derive(Clone, Copy)]
 pub struct Counts {
-    pub records: u32,
     pub statics: u32,
     pub members: u32,
-    pub nops: u32,
-    pub loads: u32,
-    pub moves: u32,
-    pub saves: u32,
-}
-
-fn counts_of(statics: usize, members: usize, tally: Tally) -> Counts
-    requires { (statics ≤ any) × (members ≤ any) }
-    ensures { values_in result ≡ tally.records ∷ statics ∷ members ∷ tally.nops ∷ tally.loads ∷ tally.moves ∷ tally.saves ∷ [] }
-{
-    Counts {
-        records: tally.records,
-        statics: statics as u32,
-        members: members as u32,
-        nops: tally.nops,
-        loads: tally.loads,
-        moves: tally.moves,
-        saves: tally.saves,
-    }
+    pub tally: Tally,
 }
 
 // The three walks over a list that passes; each renames the registers as it goes.
@@ -60,5 +40,9 @@ pub fn reduce(
     let mut read = ReadSet::new(set);
     let statics = color(list, table, settings, colours, ends, &mut read);
     let tally = contract::contract(list, settings, colours, ends, &read, out);
-    counts_of(statics, read.len(), tally)
+    Counts {
+        statics: statics as u32,
+        members: read.len() as u32,
+        tally,
+    }
 }

@@ -1,7 +1,6 @@
 -- `coloring::color` meets its contract: before each record the slices and the set are the definitions'.
 -- By what `Colouring` says of a record.
 use Prim.Native.Nat.{◌≤◌}
-use mathlib.Core.Path.{◌≡◌}
 use Rattle.mir.specs.Records.{records}
 use Rattle.coloring.proofs.Invariant.{state, Colouring}
 use Rattle.coloring.proofs.color.Given as goal
@@ -9,5 +8,4 @@ use Rattle.coloring.proofs.color.Given as goal
 abbrev pub invariant-loop-i : goal.invariant-loop-i
 invariant-loop-i l =
     (l.i ≤ records l.list)
-    × (l.set.words.ghost_name ≡ l.initial.set.words.ghost_name)
-    × Colouring l.fn.settings l.list l.table l.initial.colours l.initial.ends l.initial.set.words.now l.i (state l.allocs l.colours l.ends) l.set l.regs l.statics
+    × Colouring l.fn.settings l.list l.table l.initial.colours l.initial.ends l.initial.set l.i (state l.allocs l.colours l.ends) l.set l.renaming

@@ -10,36 +10,36 @@ use Rattle.coloring.proofs.color_dest.Goals as goal
 
 pub returns-then-w-ge256 : goal.returns-then-w-ge256
 returns-then-w-ge256 c =
-    rw (step_named c.args.n c.args.i c.args.next c.args.w (held_in c.args.want) (slices_in c.args.allocs.now c.args.colours.now c.args.ends.now) (le-ltb _ _ c.if-w-ge256.true))
+    rw (step_named c.args.allocs.now.count c.args.i c.args.next c.args.w (held_in c.args.want) (slices_in c.args.allocs.now c.args.colours.now c.args.ends.now) (le-ltb _ _ c.if-w-ge256.true))
     (record { allocs = standing c.requires.masked; colours = refl; ends = refl })
 
 -- ---- a colour that is found, and one that is free: the code's choice is the definition's
 
 pub assign-requires : goal.assign-requires
 assign-requires c =
-    let found = sym (c.choose-choice.ensures c.args.i _ (standing c.requires.masked)) ∙ c.in-Found.is in
-    omega (arith, (choose_found c.args.n c.args.i _ (held_in c.args.want) _ found).0, c.requires.masked.few)
+    let found = sym (c.choose.ensures _ c.args.i _ (standing c.requires.masked)) ∙ c.in-Found.is in
+    omega (arith, (choose_found c.args.allocs.now.count c.args.i _ (held_in c.args.want) _ found).0, c.requires.masked.few)
 
 pub assign-requires-in-Free : goal.assign-requires-in-Free
 assign-requires-in-Free c =
-    let free = sym (c.choose-choice.ensures c.args.i _ (standing c.requires.masked)) ∙ c.in-Free.is in
-    omega (arith, (choose_free c.args.n c.args.i _ (held_in c.args.want) _ free).0, c.requires.masked.few)
+    let free = sym (c.choose.ensures _ c.args.i _ (standing c.requires.masked)) ∙ c.in-Free.is in
+    omega (arith, (choose_free c.args.allocs.now.count c.args.i _ (held_in c.args.want) _ free).0, c.requires.masked.few)
 
 pub returns-in-Found : goal.returns-in-Found
 returns-in-Found c =
     let s = standing c.requires.masked in
-    let found = sym (c.choose-choice.ensures c.args.i _ s) ∙ c.in-Found.is in
-    rw (step_found c.args.n c.args.i c.args.next c.args.w (held_in c.args.want) (slices_in c.args.allocs.now c.args.colours.now c.args.ends.now) (lt-ltb _ _ c.if-w-ge256.false) found)
-    (record { allocs = c.assign.ensures c.args.n _ (choose_found c.args.n c.args.i _ (held_in c.args.want) _ found).0 s; colours = refl; ends = refl })
+    let found = sym (c.choose.ensures _ c.args.i _ s) ∙ c.in-Found.is in
+    rw (step_found c.args.allocs.now.count c.args.i c.args.next c.args.w (held_in c.args.want) (slices_in c.args.allocs.now c.args.colours.now c.args.ends.now) (lt-ltb _ _ c.if-w-ge256.false) found)
+    (record { allocs = c.assign.ensures c.args.allocs.now.count _ (choose_found c.args.allocs.now.count c.args.i _ (held_in c.args.want) _ found).0 s; colours = refl; ends = refl })
 
 pub returns-in-Free : goal.returns-in-Free
 returns-in-Free c =
     let s = standing c.requires.masked in
-    let free = sym (c.choose-choice.ensures c.args.i _ s) ∙ c.in-Free.is in
-    rw (step_free c.args.n c.args.i c.args.next c.args.w (held_in c.args.want) (slices_in c.args.allocs.now c.args.colours.now c.args.ends.now) (lt-ltb _ _ c.if-w-ge256.false) free)
-    (record { allocs = c.assign-in-Free.ensures c.args.n _ (choose_free c.args.n c.args.i _ (held_in c.args.want) _ free).0 s; colours = refl; ends = refl })
+    let free = sym (c.choose.ensures _ c.args.i _ s) ∙ c.in-Free.is in
+    rw (step_free c.args.allocs.now.count c.args.i c.args.next c.args.w (held_in c.args.want) (slices_in c.args.allocs.now c.args.colours.now c.args.ends.now) (lt-ltb _ _ c.if-w-ge256.false) free)
+    (record { allocs = c.assign-in-Free.ensures c.args.allocs.now.count _ (choose_free c.args.allocs.now.count c.args.i _ (held_in c.args.want) _ free).0 s; colours = refl; ends = refl })
 
 pub returns-in-Empty : goal.returns-in-Empty
 returns-in-Empty c =
-    let empty = sym (c.choose-choice.ensures c.args.i _ (standing c.requires.masked)) ∙ c.in-Empty.is in
+    let empty = sym (c.choose.ensures _ c.args.i _ (standing c.requires.masked)) ∙ c.in-Empty.is in
     absurd (subst Picks empty (c.requires.ready_for (lt-ltb _ _ c.if-w-ge256.false)).0)

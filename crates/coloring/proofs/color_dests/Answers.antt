@@ -38,11 +38,12 @@ color_dest-requires-in-Two-2 c =
     let x = c.color_dest-in-Two in
     let w = one_le c.in-Two.x in
     let e = c.count_static.ensures in
+    rw x.ensures.allocs.count
     record {
       masked = lent_masked x.ensures;
       colours_room = omega (arith, c.requires.colours_room, w, e, x.auto.colours);
       ends_room = omega (arith, c.requires.ends_room, w, e, x.auto.ends);
-      ready_for = ready_as c.args.n c.args.i c.args.next c.in-Two.y (held_in c.args.hy) (lent_are x.ensures) e r.1.0;
+      ready_for = ready_as c.args.allocs.now.count c.args.i c.args.next c.in-Two.y (held_in c.args.hy) (lent_are x.ensures) e r.1.0;
     }
 
 pub returns-in-Nothing : goal.returns-in-Nothing
@@ -58,4 +59,5 @@ returns-in-One c = rw (dests_told c.dests_of.ensures c.in-One.is) c.color_dest.e
 pub returns-in-Two : goal.returns-in-Two
 unfolding dest_steps
 returns-in-Two c =
-    rw (dests_told c.dests_of.ensures c.in-Two.is, ← (lent_are c.color_dest-in-Two.ensures), ← c.count_static.ensures) c.color_dest-in-Two-2.ensures
+    let x = c.color_dest-in-Two.ensures in
+    rw (dests_told c.dests_of.ensures c.in-Two.is, ← (lent_are x), ← c.count_static.ensures) (rw x.allocs.count at c.color_dest-in-Two-2.ensures)

@@ -10,14 +10,14 @@ use Rattle.coloring.proofs.color_record.Goals as goal
 
 pub want_x-hx-requires : goal.want_x-hx-requires
 want_x-hx-requires c =
-    let used = used_coloured c.args.rec (omega arith) (source_word c.args.regs.now c.args.colours.now) c.args.n 0 c.requires.coloured in
+    let used = used_coloured c.args.rec.now (omega arith) (source_word c.args.renaming.now.regs c.args.colours.now) c.args.allocs.now.count 0 c.requires.coloured in
     rw (c.shape_of-s.ensures, c.loc_of-l.ensures, c.source_at-x.ensures)
     (record { space_lt_any = c.requires.space_bound; x_lt_max_regs = λ u l. omega (arith, used u l, c.requires.masked.few) })
 
 pub want_y-hy-requires : goal.want_y-hy-requires
 want_y-hy-requires c =
     rw (c.shape_of-s.ensures, c.loc_of-l.ensures)
-    (record { space_lt_any = c.requires.space_bound; index_lt_any = λ e. partner_below c.args.rec (ap is_complex e) c.requires.partner_fits })
+    (record { space_lt_any = c.requires.space_bound; index_lt_any = λ e. partner_below c.args.rec.now (ap is_complex e) c.requires.partner_fits })
 
 -- what the destinations are wanted with is what the definition says
 pub color_dests-requires : goal.color_dests-requires
@@ -26,24 +26,23 @@ color_dests-requires c =
       masked = c.requires.masked;
       colours_room = c.requires.colours_room;
       ends_room = c.requires.ends_room;
-      ready = rw (c.want_x-hx.ensures c.args.n c.args.i _ (standing c.requires.masked), c.want_y-hy.ensures, c.shape_of-s.ensures, c.loc_of-l.ensures, c.source_at-x.ensures) c.requires.ready;
+      ready = rw (c.want_x-hx.ensures c.args.allocs.now.count c.args.i _ (standing c.requires.masked), c.want_y-hy.ensures, c.shape_of-s.ensures, c.loc_of-l.ensures, c.source_at-x.ensures) c.requires.ready;
     }
 
 pub update-requires : goal.update-requires
 update-requires c =
-    let f = source_word c.args.regs.now c.args.colours.now in
-    rw (c.shape_of-s.ensures, c.loc_of-l.ensures, c.source_at-x.ensures, c.source_at-y.ensures)
+    let f = source_word c.args.renaming.now.regs c.args.colours.now in
+    rw (c.color_dests.ensures.allocs.count, c.shape_of-s.ensures, c.loc_of-l.ensures, c.source_at-x.ensures, c.source_at-y.ensures)
     (record {
-      n_le_max_regs = c.requires.masked.few;
       space_lt_any = c.requires.space_bound;
-      index_lt_any = λ e. partner_below c.args.rec (ap is_complex e) c.requires.partner_fits;
-      x_lt_n = used_coloured c.args.rec (omega arith) f c.args.n 0 c.requires.coloured;
-      y_lt_n = used_coloured c.args.rec (omega arith) f c.args.n 1 c.requires.coloured;
+      index_lt_any = λ e. partner_below c.args.rec.now (ap is_complex e) c.requires.partner_fits;
+      x_lt_count = used_coloured c.args.rec.now (omega arith) f c.args.allocs.now.count 0 c.requires.coloured;
+      y_lt_count = used_coloured c.args.rec.now (omega arith) f c.args.allocs.now.count 1 c.requires.coloured;
     })
 
 pub returns : goal.returns
 unfolding record_step
 returns c =
-    let given = rw (c.want_x-hx.ensures c.args.n c.args.i _ (standing c.requires.masked), c.want_y-hy.ensures, c.shape_of-s.ensures, c.loc_of-l.ensures, c.source_at-x.ensures) at c.color_dests.ensures in
-    let done = rw (c.shape_of-s.ensures, c.loc_of-l.ensures, c.source_at-x.ensures, c.source_at-y.ensures) at (c.update.ensures c.args.i _ given.allocs) in
+    let given = rw (c.want_x-hx.ensures c.args.allocs.now.count c.args.i _ (standing c.requires.masked), c.want_y-hy.ensures, c.shape_of-s.ensures, c.loc_of-l.ensures, c.source_at-x.ensures) at c.color_dests.ensures in
+    let done = rw (c.shape_of-s.ensures, c.loc_of-l.ensures, c.source_at-x.ensures, c.source_at-y.ensures) at (c.update.ensures _ c.args.i _ given.allocs) in
     record { allocs = done; colours = given.colours; ends = given.ends }

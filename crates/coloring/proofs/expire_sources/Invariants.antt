@@ -7,4 +7,4 @@ use Rattle.colours.specs.Masks.{Expired}
 use Rattle.coloring.proofs.expire_sources.Given as goal
 
 abbrev pub invariant-loop-w : goal.invariant-loop-w
-invariant-loop-w l = Expired l.initial.allocs (map (source_word l.regs l.colours) (take l.w-index l.w-items)) l.i l.allocs
+invariant-loop-w l = Expired l.initial.allocs (map (source_word l.renaming.regs l.colours) (take l.w-index l.w-items)) l.i l.allocs

@@ -3,9 +3,9 @@ use Rattle.passes.specs.Color.{joined}
 use Rattle.sets.proofs.Pairs.{holds_more, join_grows}
 use Rattle.coloring.proofs.insert_both.Goals as goal
 
-pub returns-clause-holds : goal.returns-clause-holds
+pub returns : goal.returns
 unfolding joined
-returns-clause-holds c =
-    let first = c.insert.ensures.holds in
-    let both = c.insert-2.ensures.holds in
+returns c =
+    let first = c.insert.ensures in
+    let both = c.insert-2.ensures in
     holds_more first (join_grows _ _) (rw (first.members, c.partner.ensures) at both)

@@ -14,8 +14,8 @@ act e f = sym (ap (λ (s : Shape). s.action) e) ∙ f
 
 pub insert_both-requires-clause-index_lt_any : goal.insert_both-requires-clause-index_lt_any
 insert_both-requires-clause-index_lt_any c =
-    rw c.loc_of-then-not-found-2.ensures (partner_below c.args.rec (ap is_complex (act c.shape_of-s.ensures c.in-LoadComplex.is)) c.requires.partner_fits)
+    rw c.loc_of-then-not-found-2.ensures (partner_below c.args.rec.now (ap is_complex (act c.shape_of-s.ensures c.in-LoadComplex.is)) c.requires.partner_fits)
 
 pub extend-requires-clause-count_in_bounds : goal.extend-requires-clause-count_in_bounds
 extend-requires-clause-count_in_bounds c =
-    args_inside c.args.table.now c.args.rec (args_kind (word_at c.args.rec 0) (act c.shape_of-s.ensures c.in-LoadArgs.is)) c.requires.fields_fit
+    args_inside c.args.table.now c.args.rec.now (args_kind (word_at c.args.rec.now 0) (act c.shape_of-s.ensures c.in-LoadArgs.is)) c.requires.fields_fit

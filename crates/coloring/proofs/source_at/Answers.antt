@@ -10,7 +10,7 @@ use Rattle.coloring.proofs.source_at.Goals as goal
 
 pub returns-in-Some : goal.returns-in-Some
 returns-in-Some c =
-    let f = source_word c.args.regs.now c.args.colours.now in
+    let f = source_word c.args.renaming.now.regs c.args.colours.now in
     let ws = c.sources_of.result.now in
     let within : c.args.j < length ws = search rules in
     let word : c.in-Some.field-0.now ≡ get_or ws c.args.j 0 = search rules in
@@ -18,7 +18,7 @@ returns-in-Some c =
 
 pub returns-in-None : goal.returns-in-None
 returns-in-None c =
-    let f = source_word c.args.regs.now c.args.colours.now in
+    let f = source_word c.args.renaming.now.regs c.args.colours.now in
     let ws = c.sources_of.result.now in
     let past : length ws ≤ c.args.j = search rules in
     rw (← c.sources_of.ensures) (sym (get_or-eq_default (map f ws) 0 (rw (length-map ws f) past)))

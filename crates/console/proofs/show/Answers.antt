@@ -6,4 +6,4 @@ use Rattle.console.proofs.show.Goals as goal
 pub slice_bounds-records-end : goal.slice_bounds-records-end
 slice_bounds-records-end g c =
     let few = few_in_file c.reduce_file.ensures c.in-Ok.is in
-    sym (length-take-le _ _ (omega (arith, few, c.as_chunks.ensures.front_len, c.reduce_file.auto.out)))
+    sym (length-take-le _ _ (omega (arith, few, c.records_of.ensures.len, c.reduce_file.auto.out)))

@@ -36,7 +36,7 @@ module _ {file held : List ℕ} where
       words_promise (rw v) (rw v)
 
   -- a reduced file has at most 512 records
-  pub few_in_file : {now : List ℕ} {given : Result Counts Refusal} {c : Counts} → FileReduced file held now given → given ≡ Ok c → c.records ≤ 512
+  pub few_in_file : {now : List ℕ} {given : Result Counts Refusal} {c : Counts} → FileReduced file held now given → given ≡ Ok c → c.tally.records ≤ 512
   few_in_file {c = c} f g =
       let p = answered_passed (leb (record_count file * 8) (length held)) file c (cc) in
       let h = well_sections (accepted p.0).well in

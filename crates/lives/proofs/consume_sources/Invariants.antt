@@ -6,4 +6,4 @@ use Rattle.passes.specs.Create.{consumed}
 use Rattle.lives.proofs.consume_sources.Given as goal
 
 abbrev pub invariant-loop-w : goal.invariant-loop-w
-invariant-loop-w l = l.ends ≡ consumed l.regs l.i (take l.w-index l.w-items) l.initial.ends
+invariant-loop-w l = l.ends ≡ consumed l.renaming.regs l.i (take l.w-index l.w-items) l.initial.ends

@@ -1,67 +1,70 @@
 -- `lives::create` meets its contract: after each record the slice starts with the ends so far.
 -- Beside the renaming that every walk keeps, by the law `ends_next`.
-use Rattle.std.specs.Prelude.{Option}
-use Prim.Native.Nat.{ℕ, ◌+◌, ◌/◌, ◌≤◌}
-use mathlib.Core.List.{List, []}
-use mathlib.Core.Path.{◌≡◌, refl, ap, ◌∙◌}
+use Prim.Native.Nat.{◌-◌}
+use mathlib.Core.List.{[]}
+use mathlib.Core.Path.{◌≡◌, refl}
 use native.Mathlib.Omega.{arith}
-use lib.ListN.{length, get_or}
-use Rattle.mir.specs.Records.{record_at}
-use Rattle.mir.specs.Shapes.{dests, sources}
-use Rattle.mir.proofs.Renaming.{gens_two}
-use Rattle.passes.specs.Create.{consumed, ends_to, ends_of}
-use Rattle.mir.specs.Answers.{over}
-use Rattle.lives.specs.Lives.{created}
+use lib.ListN.{length, get_or, replicate, take, drop}
+use Rattle.mir.specs.Records.{records}
+use Rattle.mir.specs.Renaming.{gens}
+use Rattle.mir.specs.Shapes.{dests}
+use Rattle.passes.specs.Create.{ends_to, ends_of}
+use Rattle.mir.proofs.Renaming.{gens_two, walked_first, walked_next}
 use Rattle.lives.proofs.Ends.{ends_next}
-use Rattle.lives.proofs.Registers.{Walked, walked_first, walked_next, walked_known, few_words, turn}
+use Rattle.lives.proofs.Registers.{few_words, turn}
 use borrow.Author.Rules.{rules}
 use Rattle.lives.proofs.create.Goals as goal
 
 pub loop-i-init : goal.loop-i-init
 unfolding ends_to
-loop-i-init c = (search rules, walked_first _, refl)
+loop-i-init c = (search rules, walked_first _ c.new-renaming.ensures.regs c.new-renaming.ensures.statics, refl)
 
 -- ---- one turn: the record, and then the calls in their order
 
-pub overflow_cast-i : goal.overflow_cast-i
-overflow_cast-i c = omega (arith, few_words _ c.requires.passes c.loop-i.i (rw c.records_of-rec-items.ensures.len at c.loop-i-test.true))
+pub overflow_cast-end : goal.overflow_cast-end
+overflow_cast-end c =
+    let here = c.records_of-rec-items.ensures.each c.loop-i.i c.loop-i-test.true in
+    omega (arith, few_words _ c.requires.passes c.loop-i.i here.0)
 
 pub consume_sources-requires : goal.consume_sources-requires
-consume_sources-requires c = walked_known c.loop-i.invariant.1 (omega (arith, turn _ c.requires.passes c.loop-i.i (rw c.records_of-rec-items.ensures.len at c.loop-i-test.true) c.loop-i.invariant.1))
+consume_sources-requires c =
+    let here = c.records_of-rec-items.ensures.each c.loop-i.i c.loop-i-test.true in
+    omega (arith, turn _ c.requires.passes c.loop-i.i here.0 c.loop-i.invariant.1, c.requires.ends_room)
 
-pub overflow_cast-i-in-loop-i : goal.overflow_cast-i-in-loop-i
-overflow_cast-i-in-loop-i c = omega (arith, few_words _ c.requires.passes c.loop-i.i (rw c.records_of-rec-items.ensures.len at c.loop-i-test.true))
+pub pass-requires : goal.pass-requires
+pass-requires c =
+    let here = c.records_of-rec-items.ensures.each c.loop-i.i c.loop-i-test.true in
+    omega (arith, turn _ c.requires.passes c.loop-i.i here.0 c.loop-i.invariant.1)
 
-pub overflow_cast-statics : goal.overflow_cast-statics
-overflow_cast-statics c = omega (arith, turn _ c.requires.passes c.loop-i.i (rw c.records_of-rec-items.ensures.len at c.loop-i-test.true) c.loop-i.invariant.1)
+pub offset_bounds-ends-first : goal.offset_bounds-ends-first
+offset_bounds-ends-first c =
+    let here = c.records_of-rec-items.ensures.each c.loop-i.i c.loop-i-test.true in
+    omega (arith, turn _ c.requires.passes c.loop-i.i here.0 c.loop-i.invariant.1)
 
-pub create_statics-requires : goal.create_statics-requires
-create_statics-requires c = omega (arith, turn _ c.requires.passes c.loop-i.i (rw c.records_of-rec-items.ensures.len at c.loop-i-test.true) c.loop-i.invariant.1)
-
-pub rename-requires : goal.rename-requires
-rename-requires c = omega (arith, turn _ c.requires.passes c.loop-i.i (rw c.records_of-rec-items.ensures.len at c.loop-i-test.true) c.loop-i.invariant.1)
-
-pub overflow_add-statics : goal.overflow_add-statics
-overflow_add-statics c =
-    rw c.count_statics-statics.ensures
-    (omega (arith, turn _ c.requires.passes c.loop-i.i (rw c.records_of-rec-items.ensures.len at c.loop-i-test.true) c.loop-i.invariant.1, gens_two (get_or c.records_of-rec-items.result.now c.loop-i.i [])))
-
--- the ends after the record's sources and destinations
-ends-turn : {list : List ℕ} {i : ℕ} {regs : List (Option ℕ)} {rec : List ℕ} {statics : ℕ} → rec ≡ record_at list i → Walked list i regs statics → (held : List ℕ) → statics + 2 ≤ length held
-    → created (dests rec) statics i (consumed regs i (sources rec) (over (ends_to list i) held)) ≡ over (ends_to list (i + 1)) held
-ends-turn {list} {i} e w held h = rw (e, w.regs_are, w.statics_are) (ends_next list i held (omega (arith, w.statics_are)))
+pub slice_bounds-fill-end : goal.slice_bounds-fill-end
+slice_bounds-fill-end c =
+    let here = c.records_of-rec-items.ensures.each c.loop-i.i c.loop-i-test.true in
+    omega (
+      arith,
+      turn _ c.requires.passes c.loop-i.i here.0 c.loop-i.invariant.1,
+      c.pass.ensures.statics,
+      gens_two (get_or c.records_of-rec-items.result.now c.loop-i.i []),
+      c.requires.ends_room,
+      c.consume_sources.auto.ends,
+    )
 
 pub loop-i-preserved : goal.loop-i-preserved
 loop-i-preserved c =
-    let items = c.records_of-rec-items.ensures in
-    let l = rw items.len at c.loop-i-test.true in
-    let rec = items.each c.loop-i.i l in
-    let read = c.consume_sources.ensures ∙ ap (consumed c.loop-i.regs c.loop-i.i (sources (get_or c.records_of-rec-items.result.now c.loop-i.i []))) c.loop-i.invariant.2 in (
+    let here = c.records_of-rec-items.ensures.each c.loop-i.i c.loop-i-test.true in
+    let w = c.loop-i.invariant.1 in
+    let first = c.loop-i.renaming.statics in
+    let read = c.consume_sources.new.ends in
+    let made : c.pass.new.self.statics - first ≡ gens (dests (get_or c.records_of-rec-items.result.now c.loop-i.i [])) = omega (arith, c.pass.ensures.statics) in
+    let long : length (take (c.pass.new.self.statics - first) (drop first read)) ≡ c.pass.new.self.statics - first = search rules in
+    let filled : c.fill.new.self ≡ replicate (c.pass.new.self.statics - first) c.loop-i.i = rw long at (c.fill.ensures.after (λ y e. e)) in (
       search rules,
-      walked_next (get_or c.records_of-rec-items.result.now c.loop-i.i []) c.loop-i.invariant.1 rec c.rename.ensures c.count_statics-statics.ensures,
-      c.create_statics.ensures
-          ∙ (ap (created (dests (get_or c.records_of-rec-items.result.now c.loop-i.i [])) c.loop-i.statics c.loop-i.i) read
-          ∙ ends-turn rec c.loop-i.invariant.1 c.args.ends.now (omega (arith, turn _ c.requires.passes c.loop-i.i l c.loop-i.invariant.1))),
+      walked_next w here.1 c.pass.ensures.regs c.pass.ensures.statics,
+      rw (filled, c.consume_sources.ensures, c.loop-i.invariant.2) (ends_next w here.1 made c.args.ends.now),
     )
 
 -- ---- after the last turn
@@ -69,5 +72,5 @@ loop-i-preserved c =
 pub returns : goal.returns
 unfolding ends_of
 returns c =
-    let e : c.loop-i.i ≡ length c.args.list.now / 8 = omega arith in
+    let e : c.loop-i.i ≡ records c.args.list.now = omega (arith, c.loop-i.invariant.0, c.records_of-rec-items.ensures.len) in
     rw e at c.loop-i.invariant.2

@@ -2,6 +2,7 @@
 -- An answer comes of a verdict that passed, so the words are the reduced list and there is room for them.
 use mathlib.Core.Path.{sym, ap, ◌∙◌}
 use native.Mathlib.Omega.{arith}
+use lib.ListN.{replicate}
 use Rattle.allocator.specs.Optimize.{report}
 use Rattle.file.proofs.Sections.{sections}
 use Rattle.rudzaviks.proofs.ReduceBytes.{words_left, written_promise, refused_bytes}
@@ -16,17 +17,17 @@ reduce_sections-requires c =
 
 pub slice_bounds-words-end : goal.slice_bounds-words-end
 slice_bounds-words-end c =
-    omega (arith, (words_left c.requires c.in-Ok.is c.reduce_sections.ensures.answer c.reduce_sections.ensures.out).few, c.reduce_sections.auto.out)
+    omega (arith, (words_left (replicate 4096 0) c.requires c.in-Ok.is c.reduce_sections.ensures.answer c.reduce_sections.ensures.out).few, c.reduce_sections.auto.out)
 
 pub slice_bounds-write_words-end : goal.slice_bounds-write_words-end
-slice_bounds-write_words-end c = sym (words_left c.requires c.in-Ok.is c.reduce_sections.ensures.answer c.reduce_sections.ensures.out).count
+slice_bounds-write_words-end c = sym (words_left (replicate 4096 0) c.requires c.in-Ok.is c.reduce_sections.ensures.answer c.reduce_sections.ensures.out).count
 
 pub write_words-requires : goal.write_words-requires
-write_words-requires c = (words_left c.requires c.in-Ok.is c.reduce_sections.ensures.answer c.reduce_sections.ensures.out).fit
+write_words-requires c = (words_left (replicate 4096 0) c.requires c.in-Ok.is c.reduce_sections.ensures.answer c.reduce_sections.ensures.out).fit
 
 pub returns-in-Ok : goal.returns-in-Ok
 returns-in-Ok c =
-    written_promise (words_left c.requires c.in-Ok.is c.reduce_sections.ensures.answer c.reduce_sections.ensures.out) c.write_words.ensures
+    rw c.from.ensures (written_promise (words_left (replicate 4096 0) c.requires c.in-Ok.is c.reduce_sections.ensures.answer c.reduce_sections.ensures.out) c.write_words.ensures)
 
 pub returns-in-Err : goal.returns-in-Err
 returns-in-Err c =

@@ -29,7 +29,7 @@ returns-in-Ok c =
     rw c.settings_of-settings.ensures at c.optimize.ensures in
     let room : 7 ≤ length c.args.counts.now =
     c.if-counts-lt7.false in
-    entry_answered room promised c.in-Ok.is c.write_counts.ensures
+    rw c.from.ensures (entry_answered room promised c.in-Ok.is c.write_counts.ensures)
 
 pub returns-in-Err : goal.returns-in-Err
 returns-in-Err c =

@@ -4,9 +4,6 @@ use mathlib.Core.Path.{sym, ◌∙◌}
 use Rattle.rudzaviks.proofs.ReduceBytes.{bad_bytes}
 use Rattle.rudzaviks.proofs.rudzaviks_reduce.Goals as goal
 
-pub reduce_bytes-requires : goal.reduce_bytes-requires
-reduce_bytes-requires c = sym c.layout_of.ensures ∙ c.in-Some.is
-
 pub returns-in-None : goal.returns-in-None
 returns-in-None c =
     let layout = sym c.layout_of.ensures ∙ c.in-None.is in

@@ -21,7 +21,7 @@ returns-in-Ok c =
     let room : 4 ≤ length c.args.parts.now =
     c.if-parts-lt4.false in
     let words = rw c.place_word-index.ensures at c.write_parts.ensures in
-    rw c.place_word-index.ensures (survey_answered room promised c.in-Ok.is words)
+    rw (c.from.ensures, c.place_word-index.ensures) (survey_answered room promised c.in-Ok.is words)
 
 pub returns-in-Err : goal.returns-in-Err
 returns-in-Err c =

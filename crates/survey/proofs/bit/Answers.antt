@@ -5,9 +5,6 @@ use Rattle.mir.proofs.Masks.{bit_is}
 use Rattle.survey.proofs.Masks.{mask_one, mask_named}
 use Rattle.survey.proofs.bit.Goals as goal
 
-pub overflow_shl-result : goal.overflow_shl-result
-overflow_shl-result c = c.requires c.if-w-lt256.true
-
 pub returns-then-w-lt256 : goal.returns-then-w-lt256
 returns-then-w-lt256 c = bit_is max_regs _ (c.requires c.if-w-lt256.true) ∙ sym (mask_one _ c.if-w-lt256.true)
 

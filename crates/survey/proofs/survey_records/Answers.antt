@@ -1,6 +1,8 @@
 -- `survey::survey_records` meets its contract: no record passed is refused, and the first no decides; the mask is that of the records
 -- passed, and the place is the last Label's among them.
 -- By the laws of a walk that stops at the first refusal.
+use Prim.Native.Nat.{ℕ}
+use mathlib.Core.List.{List}
 use mathlib.Core.Path.{◌≡◌, refl, sym, ap, ◌∙◌}
 use native.Mathlib.Numerals.{add-one}
 use native.Mathlib.Omega.{arith}
@@ -10,8 +12,8 @@ use Rattle.survey.specs.Beside.{mask_to, place_in, parts, used_mask}
 use Rattle.mir.specs.Answers.{no_in}
 use Rattle.mir.specs.Branches.{label_at}
 use Rattle.mir.specs.Folds.{last_below}
-use Rattle.mir.specs.Questions.{shape_by, shape_refusal}
-use Rattle.mir.specs.Records.{max_regs, records}
+use Rattle.mir.specs.Questions.{shape_no, shape_by, shape_refusal}
+use Rattle.mir.specs.Records.{max_regs, records, record_at}
 use Rattle.mir.proofs.Asked.{numbered, asked_ok}
 use Rattle.mir.proofs.Folds.{unrefused_none, unrefused_more, unrefused_stops, unrefused_ends}
 use Rattle.survey.proofs.Masks.{ones_digits}
@@ -22,44 +24,32 @@ pub loop-i-init : goal.loop-i-init
 unfolding mask_to last_below
 loop-i-init c = (unrefused_none, refl, refl)
 
+-- what a record is refused by is the definition's number for it
+told : (table list : List ℕ) (count_regs i : ℕ) {no : ℕ} {rec : List ℕ} → rec ≡ record_at list i → no ≡ shape_no table count_regs rec → no ≡ shape_by table count_regs list i
+told table list count_regs i e h = rw (← e) h
+
 pub returns-in-Err : goal.returns-in-Err
 unfolding shape_refusal
 returns-in-Err c =
-    let items = c.records_of-rec-items.ensures in
-    let l = rw items.len at c.loop-i-test.true in
-    let rec = items.each c.loop-i.i l in
-    -- what the record is refused by is the definition's number for it
-    let by_is : no_in c.check_shape-answer.result ≡ shape_by c.args.table.now c.args.settings.count_regs c.args.list.now c.loop-i.i =
-    rw (← rec) c.check_shape-answer.ensures in
+    let here = c.records_of-rec-items.ensures.each c.loop-i.i c.loop-i-test.true in
     rw (
       c.of_record.ensures,
-      ← (unrefused_stops c.loop-i.invariant.0 l (sym (ap no_in c.in-Err.is) ∙ by_is) (numbered c.in-Err.question)),
+      ← (unrefused_stops c.loop-i.invariant.0 here.0 (sym (ap no_in c.in-Err.is) ∙ told c.args.table.now c.args.list.now c.args.settings.count_regs c.loop-i.i here.1 c.check_shape.ensures) (numbered c.in-Err.question)),
     )
 
 pub get_dst-mask-requires : goal.get_dst-mask-requires
 get_dst-mask-requires c =
-    let items = c.records_of-rec-items.ensures in
-    let l = rw items.len at c.loop-i-test.true in
-    let rec = items.each c.loop-i.i l in
-    -- what the record is refused by is the definition's number for it
-    let by_is : no_in c.check_shape-answer.result ≡ shape_by c.args.table.now c.args.settings.count_regs c.args.list.now c.loop-i.i =
-    rw (← rec) c.check_shape-answer.ensures in
-    let p = shape_passes _ _ _ (asked_ok c.in_default.is by_is) in
-    rw rec (gens_fit_more _ max_regs _ c.requires.count_regs_bound p.gens)
+    let p = shape_passes _ _ _ (asked_ok c.in_default.is c.check_shape.ensures) in
+    gens_fit_more _ max_regs _ c.requires.count_regs_bound p.gens
 
 pub loop-i-preserved : goal.loop-i-preserved
 unfolding mask_to last_below
 loop-i-preserved c =
-    let items = c.records_of-rec-items.ensures in
-    let l = rw items.len at c.loop-i-test.true in
-    let rec = items.each c.loop-i.i l in
-    -- what the record is refused by is the definition's number for it
-    let by_is : no_in c.check_shape-answer.result ≡ shape_by c.args.table.now c.args.settings.count_regs c.args.list.now c.loop-i.i =
-    rw (← rec) c.check_shape-answer.ensures in
+    let here = c.records_of-rec-items.ensures.each c.loop-i.i c.loop-i-test.true in
     let inv = c.loop-i.invariant in (
-      unrefused_more inv.0 l by_is (ap no_in c.in_default.is),
-      rw (add-one, c.get_dst-mask.ensures, rec, inv.1),
-      rw (add-one, c.later_label-later.ensures, rec, inv.2),
+      unrefused_more inv.0 here.0 (told c.args.table.now c.args.list.now c.args.settings.count_regs c.loop-i.i here.1 c.check_shape.ensures) (ap no_in c.in_default.is),
+      rw (add-one, c.get_dst-mask.ensures, here.1, inv.1),
+      rw (add-one, c.later_label-place.ensures, here.1, inv.2),
     )
 
 pub returns : goal.returns

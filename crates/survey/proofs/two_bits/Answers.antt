@@ -11,12 +11,6 @@ returns-then-x-ge256 c = sym (mask_named _ _ c.if-x-ge256.true)
 pub returns-then-y-ge256 : goal.returns-then-y-ge256
 returns-then-y-ge256 c = sym (mask_second_named _ _ c.if-x-ge256.false c.if-y-ge256.true)
 
-pub overflow_shl-result : goal.overflow_shl-result
-overflow_shl-result c = c.requires.x_lt_max_regs c.if-x-ge256.false
-
-pub overflow_shl-result-2 : goal.overflow_shl-result-2
-overflow_shl-result-2 c = c.requires.y_lt_max_regs c.if-y-ge256.false
-
 pub returns : goal.returns
 returns c =
     rw (bit_is max_regs _ (c.requires.x_lt_max_regs c.if-x-ge256.false), bit_is max_regs _ (c.requires.y_lt_max_regs c.if-y-ge256.false))

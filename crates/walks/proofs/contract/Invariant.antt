@@ -1,41 +1,42 @@
 -- The last walk: what its loop keeps, what a record may be asked for, and that the record takes it to the next.
 -- The colours are read off the lent slice, which has grown to all; the marks say what was found, and go.
-use Rattle.std.specs.Prelude.{Option}
-use Prim.Native.Nat.{ℕ, suc, ◌+◌, ◌*◌, ◌-◌, ◌/◌, ◌<◌, ◌≤◌}
+use Prim.Native.Nat.{ℕ, suc, ◌+◌, ◌*◌, ◌-◌, ◌/◌, ◌%◌, ◌<◌, ◌≤◌}
 use mathlib.Core.Bool.{Bool, true, false, cond}
-use mathlib.Core.List.{List, [], ◌++◌, append-nil}
+use mathlib.Core.List.{List, [], ◌++◌, map, append-nil}
 use mathlib.Core.Path.{◌≡◌, refl, sym, ap, subst, ◌∙◌}
 use native.Mathlib.Nat.{add-zero}
 use native.Mathlib.Numerals.{add-one}
 use native.Mathlib.Omega.{arith}
 use lib.Dec.{eqb}
-use lib.ListN.{length, get_or, drop}
+use lib.ListN.{length, get_or, take, drop}
+use borrow.Rule.Slice.PartMut.{put_mid}
 use lib.Seq.{take-append_seam, drop-append_seam}
 use Rattle.mir.specs.declared.config.Settings.{Settings}
-use Rattle.mir.specs.Questions.{gens_fit, partner_fits}
-use Rattle.mir.specs.Records.{max_regs, records, record_at, fixed_mark}
+use Rattle.mir.specs.Questions.{partner_fits}
+use Rattle.mir.specs.Records.{records, record_at, fixed_mark}
 use Rattle.mir.specs.Renaming.{gens, statics_to, regs_to}
 use Rattle.mir.specs.Shapes.{any, dests}
-use Rattle.mir.proofs.Passing.{ListPasses, gens_fit_more}
-use Rattle.mir.proofs.Renaming.{statics_two}
+use Rattle.mir.specs.declared.rename.Renaming.{Renaming}
+use Rattle.mir.proofs.Passing.{ListPasses}
+use Rattle.mir.proofs.Renaming.{Walked, statics_two}
 use Rattle.passes.specs.declared.alloc.Outcome.{Outcome}
 use Rattle.passes.specs.declared.alloc.Outcome.TheVariants.{Kept, Nop, Load, Move, Save}
 use Rattle.passes.specs.Color.{Setup, setup, found_at, color_to}
 use Rattle.passes.specs.Create.{ends_of}
+use Rattle.theorems.proofs.Create.{ends_fit}
 use Rattle.theorems.proofs.Lengths.{reduced_length, counts_add}
 use Rattle.walks.specs.declared.contract.Tally.{Tally}
 use Rattle.mir.specs.Answers.{over}
 use Rattle.passes.specs.declared.symbol.Loc.{Loc}
 use Rattle.passes.specs.Contract.{is_kept, outcome_number, read_set, out_at, outcome_at, reduced_to, reduced, count_to, count_of, members_of}
-use Rattle.lives.specs.Lives.{KnownIn}
 use Rattle.coloring.specs.Coloring.{was_found, founds_to, marked}
-use Rattle.walks.specs.Walks.{Colored, Contracted, Short, rewritten, outcome_in, unmarked, tallied, put_if}
+use Rattle.walks.specs.Walks.{Colored, Contracted, Short, rewritten, outcome_in, tallied, put_if}
 use Rattle.walks.proofs.contract.Colours.{Grows, grows_get, founds_grow, rewritten_out}
 use Rattle.coloring.proofs.Dests.{marked_length}
 use Rattle.mir.proofs.Over.{over_length, over_after}
-use Rattle.coloring.proofs.Record.{all_statics, small, room, founds_length, found_flags}
-use Rattle.walks.proofs.contract.Marks.{seen, seen_none, seen_past, seen_all, unmark_record}
-use Rattle.lives.proofs.Registers.{Walked, passing_list, walked_known}
+use Rattle.coloring.proofs.Record.{small, room, founds_length, found_flags}
+use Rattle.walks.proofs.contract.Marks.{seen, seen_none, seen_past, seen_all, unmark_part}
+use Rattle.lives.proofs.Registers.{passing_list}
 
 -- the counts of the first i records
 abbrev pub tally_to : Settings → List ℕ → List ℕ → ℕ → Tally
@@ -131,27 +132,24 @@ module _ (g : Call) where
   pub passes : ListPasses s list table
   passes = passing_list s list table col.passing
 
-  ends_count : length (ends_of list) ≡ statics_to list (records list)
-  ends_count = all_statics s list table passes (ends_of list) (ends_of list) (omega arith)
-
   wide : length (ends_of list) ≤ length C
-  wide = omega (arith, ends_count, statics_two list (records list), col.colours_room)
+  wide = ends_fit list col.colours_room
 
   ends_in : length (ends_of list) ≤ length E0
-  ends_in = omega (arith, ends_count, statics_two list (records list), col.ends_room)
+  ends_in = ends_fit list col.ends_room
 
   -- the set's members
   members_are : members ≡ read_set u
   unfolding members_of
   members_are = col.members_are
 
-  pub contracting_first : Contracting s list table E0 O0 0 E0 O0 (record { records = 0; nops = 0; loads = 0; moves = 0; saves = 0 })
+  pub contracting_first : {t : Tally} → (t.records ≡ 0) × ((t.nops ≡ 0) × ((t.loads ≡ 0) × ((t.moves ≡ 0) × (t.saves ≡ 0)))) → Contracting s list table E0 O0 0 E0 O0 t
   unfolding reduced_to count_to statics_to
-  contracting_first =
+  contracting_first {t} none =
       record {
         ends_are = rw (seen_none (founds_to u (records list))) col.ends_start;
         out_is = refl;
-        tally_is = refl;
+        tally_is = sym (tally_same t (sym none.0) (sym none.1.0) (sym none.1.1.0) (sym none.1.1.1.0) (sym none.1.1.1.1));
       }
 
   -- every record seen: no mark is left
@@ -175,27 +173,24 @@ module _ (g : Call) where
         ∙ over_length (reduced_to (fixed_mark s) u i) O0 (omega (arith, reduced_length (fixed_mark s) u i le, kept_few, g.room_out))
 
   module _ {i : ℕ} {ends out : List ℕ} {t : Tally} (inv : Contracting s list table E0 O0 i ends out t) (l : i < length list / 8)
-      {regs : List (Option ℕ)} {statics : ℕ} (w : Walked list i regs statics) {rec : List ℕ} (e : rec ≡ record_at list i) where
+      {r : Renaming} (w : Walked list i r) {rec : List ℕ} (e : rec ≡ record_at list i) where
     below : i ≤ records list
     below = omega arith
 
     -- what contracting the record asks for
-    pub contract_asks : (gens_fit max_regs rec ≡ true) × (partner_fits rec ≡ true) × (statics + 2 ≤ length C) × (statics + 2 ≤ length ends)
-        × KnownIn regs (length C) × Short t any × (t.records * 8 + 8 ≤ length out)
+    pub contract_asks : (partner_fits rec ≡ true) × (r.statics + 2 ≤ length C) × (r.statics + 2 ≤ length ends) × Short t any × (t.records * 8 + 8 ≤ length out)
     contract_asks =
         let k = statics_two list i in
         let q = counts_add (fixed_mark s) u i in
         let few = passes.sized.small in (
-          rw e (gens_fit_more s.count_regs max_regs (record_at list i) passes.few (passes.each i l).shape.gens),
           rw e (passes.each i l).partner,
           omega (arith, w.statics_are, k, col.colours_room),
           omega (arith, w.statics_are, k, col.ends_room, ends_same inv below),
-          walked_known w (omega (arith, w.statics_are, k, col.colours_room)),
           rw inv.tally_is (omega (arith, q, few), omega (arith, q, few), omega (arith, q, few), omega (arith, q, few), omega (arith, q, few)),
           rw inv.tally_is (omega (arith, q, out_same inv below, g.room_out)),
         )
 
-    found_is : was_found (dests rec) statics ends ≡ found_at u i (color_to u i)
+    found_is : was_found (dests rec) r.statics ends ≡ found_at u i (color_to u i)
     unfolding statics_to
     found_is = rw (inv.ends_are, w.statics_are, e) (found_flags s list table passes C E0 wide i l (seen (statics_to list i) (founds_to u (records list))) flag)
       where
@@ -210,21 +205,21 @@ module _ (g : Call) where
             let g = subst (λ n. Grows (founds_to u (suc i)) (founds_to u n)) k (founds_grow u (records list - suc i) (suc i)) in
             seen_past (statics_to list i) (statics_to list i + j) (founds_to u (records list)) (omega arith) ∙ grows_get false (statics_to list i + j) g (inside j z)
 
-    written_is : rewritten regs statics C rec ≡ out_at u i
+    written_is : rewritten r.regs r.statics C rec ≡ out_at u i
     written_is =
         rw (w.regs_are, w.statics_are, e)
         (subst (λ cs. rewritten (regs_to list i) (statics_to list i) cs (record_at list i) ≡ out_at u i) (sym col.colours_start) (rewritten_out s list table passes C i l))
 
-    outcome_is : (fixed : ℕ) → fixed ≡ fixed_mark s → outcome_in fixed members regs statics C ends rec ≡ outcome_at (fixed_mark s) u i
+    outcome_is : (fixed : ℕ) → fixed ≡ fixed_mark s → outcome_in fixed members r.regs r.statics C ends rec ≡ outcome_at (fixed_mark s) u i
     unfolding outcome_at
     outcome_is fixed f =
-        ap (λ ms. outcome_in fixed ms regs statics C ends rec) members_are ∙ rw (f, found_is, written_is) refl
+        ap (λ ms. outcome_in fixed ms r.regs r.statics C ends rec) members_are ∙ rw (f, found_is, written_is) refl
 
-    ends_next : unmarked (dests rec) statics ends ≡ over (ends_at s list table (i + 1)) E0
+    ends_next : {made : ℕ} → made ≡ gens (dests rec) → put_mid r.statics made ends (map (λ end. end % 65536) (take made (drop r.statics ends))) ≡ over (ends_at s list table (i + 1)) E0
     unfolding statics_to
-    ends_next =
-        rw (add-one i, inv.ends_are, w.statics_are, e)
-        (unmark_record (ends_of list) E0 (founds_to u (records list)) (small s list table passes C E0 wide) (dests (record_at list i)) (statics_to list i) (room s list table passes C E0 wide i l))
+    ends_next m =
+        rw (add-one i, m, inv.ends_are, w.statics_are, e)
+        (unmark_part (ends_of list) E0 (founds_to u (records list)) (small s list table passes C E0 wide) (gens (dests (record_at list i))) (statics_to list i) (room s list table passes C E0 wide i l))
 
     out_next : put_if (is_kept (outcome_at (fixed_mark s) u i)) (t.records * 8) (out_at u i) out
         ≡ over (reduced_to (fixed_mark s) u (i + 1)) O0
@@ -233,16 +228,16 @@ module _ (g : Call) where
         rw (add-one i, inv.out_is, inv.tally_is)
         (put_after (reduced_to (fixed_mark s) u i) (out_at u i) O0 (count_to Kept (fixed_mark s) u i * 8) (is_kept (outcome_at (fixed_mark s) u i)) (sym (reduced_length (fixed_mark s) u i below)))
 
-    pub contracting_next : (fixed : ℕ) → fixed ≡ fixed_mark s → {ends' out' : List ℕ} {t' : Tally}
-        → t' ≡ tallied (outcome_in fixed members regs statics C ends rec) t
-        → ends' ≡ unmarked (dests rec) statics ends
-        → out' ≡ put_if (is_kept (outcome_in fixed members regs statics C ends rec)) (t.records * 8) (rewritten regs statics C rec) out
+    pub contracting_next : (fixed : ℕ) → fixed ≡ fixed_mark s → {ends' out' : List ℕ} {t' : Tally} {made : ℕ} → made ≡ gens (dests rec)
+        → t' ≡ tallied (outcome_in fixed members r.regs r.statics C ends rec) t
+        → ends' ≡ put_mid r.statics made ends (map (λ end. end % 65536) (take made (drop r.statics ends)))
+        → out' ≡ put_if (is_kept (outcome_in fixed members r.regs r.statics C ends rec)) (t.records * 8) (rewritten r.regs r.statics C rec) out
         → Contracting s list table E0 O0 (i + 1) ends' out' t'
-    contracting_next fixed f p q r =
+    contracting_next fixed f m p q o =
         let k = outcome_is fixed f in
         record {
-          ends_are = q ∙ ends_next;
-          out_is = r ∙ (rw (k, written_is) out_next);
+          ends_are = q ∙ ends_next m;
+          out_is = o ∙ (rw (k, written_is) out_next);
           tally_is = p ∙ (ap (λ g. tallied g t) k ∙ (ap (tallied (outcome_at (fixed_mark s) u i)) inv.tally_is ∙ (tally_next s list table i ∙ ap (tally_to s list table) (sym (add-one i)))));
         }
 

@@ -1,18 +1,16 @@
 -- The last walk takes away the marks of the ends, record by record, and leaves the ends.
 -- Of the flags, those of the statics that it has seen are down; the next static's is read, then taken down.
 use Prim.Native.Nat.{ℕ, zero, suc, ◌+◌, ◌%◌, ◌<◌, ◌≤◌}
-use mathlib.Core.Bool.{Bool, true, false, cond}
-use mathlib.Core.List.{List, [], ◌∷◌}
+use mathlib.Core.Bool.{Bool, true, false}
+use mathlib.Core.List.{List, [], ◌∷◌, map}
 use mathlib.Core.Path.{◌≡◌, refl, sym, ap, ◌∙◌}
-use native.Mathlib.Nat.{add-zero, zero-add}
-use native.Mathlib.Numerals.{add-one}
+use native.Mathlib.Nat.{add-zero}
 use native.Mathlib.Omega.{arith}
-use lib.ListN.{length, get_or, set}
-use Rattle.mir.specs.Records.{is_gen}
-use Rattle.mir.specs.Renaming.{gens}
+use lib.ListN.{length, get_or, set, take, drop, length-append}
+use lib.Seq.{set-get_or}
+use borrow.Rule.Slice.PartMut.{put_mid, put_same}
 use Rattle.mir.specs.Answers.{over}
 use Rattle.coloring.specs.Coloring.{mark, marked}
-use Rattle.walks.specs.Walks.{unmarked}
 use Rattle.coloring.proofs.Dests.{marked_at, marked_length}
 use Rattle.mir.proofs.Over.{over_get, over_set}
 
@@ -34,17 +32,12 @@ seen_past (suc k) j [] h = refl
 seen_past (suc k) zero (f ∷ fs) h = absurd (omega arith)
 seen_past (suc k) (suc j) (f ∷ fs) h = seen_past k j fs (omega arith)
 
-set_same : (xs : List ℕ) (k : ℕ) → set xs k (get_or xs k 0) ≡ xs
-set_same [] k = refl
-set_same (x ∷ xs) zero = refl
-set_same (x ∷ xs) (suc k) = ap (λ r. x ∷ r) (set_same xs k)
-
 -- one flag taken down
 seen_next : (k : ℕ) (fs : List Bool) (es : List ℕ) → k < length es → set (marked (seen k fs) es) k (get_or es k 0) ≡ marked (seen (suc k) fs) es
 unfolding seen marked
 seen_next k fs [] h = absurd (omega arith)
 seen_next zero [] (e ∷ es) h = refl
-seen_next (suc k) [] (e ∷ es) h = set_same (e ∷ es) (suc k)
+seen_next (suc k) [] (e ∷ es) h = set-get_or (e ∷ es) (suc k) 0
 seen_next zero (f ∷ fs) (e ∷ es) h = ap (λ v. v ∷ marked fs es) (sym (add-zero e))
 seen_next (suc k) (f ∷ fs) (e ∷ es) h = ap (λ r. (e + 0) ∷ r) (seen_next k fs es (omega arith))
 
@@ -61,6 +54,14 @@ mark_gone : (e : ℕ) (f : Bool) → e < 65536 → (e + mark f) % 65536 ≡ e
 mark_gone e true h = omega arith
 mark_gone e false h = omega arith
 
+-- the elements of a part changed one by one
+changed_one : (f : ℕ → ℕ) (xs : List ℕ) (k n : ℕ) → k < length xs
+    → put_mid k (suc n) xs (map f (take (suc n) (drop k xs)))
+    ≡ put_mid (suc k) n (set xs k (f (get_or xs k 0))) (map f (take n (drop (suc k) (set xs k (f (get_or xs k 0))))))
+changed_one f [] k n h = absurd (omega arith)
+changed_one f (x ∷ xs) zero n h = refl
+changed_one f (x ∷ xs) (suc k) n h = ap (λ l. x ∷ l) (changed_one f xs k n (omega arith))
+
 module _ (E E0 : List ℕ) (fs : List Bool) (small : (k : ℕ) → k < length E → get_or E k 0 < 65536) where
   unmark_one : (k : ℕ) → k < length E
       → set (over (marked (seen k fs) E) E0) k (get_or (over (marked (seen k fs) E) E0) k 0 % 65536) ≡ over (marked (seen (suc k) fs) E) E0
@@ -70,19 +71,14 @@ module _ (E E0 : List ℕ) (fs : List Bool) (small : (k : ℕ) → k < length E 
       ap (λ n. n % 65536) (over_get (marked (seen k fs) E) E0 k 0 l ∙ marked_at (seen k fs) E k h) ∙ mark_gone (get_or E k 0) (get_or (seen k fs) k false) (small k h) in
       rw v (over_set (marked (seen k fs) E) E0 k (get_or E k 0) l ∙ ap (λ xs. over xs E0) (seen_next k fs E h))
 
-  pub unmark_record : (ws : List ℕ) (k : ℕ) → k + gens ws ≤ length E → unmarked ws k (over (marked (seen k fs) E) E0) ≡ over (marked (seen (k + gens ws) fs) E) E0
-  unfolding unmarked gens
-  unmark_record [] k h = rw (add-zero k) refl
-  unmark_record (w ∷ ws) k h = go (unmark_record ws) (is_gen w) h
-    where
-      go : ((m : ℕ) → m + gens ws ≤ length E → unmarked ws m (over (marked (seen m fs) E) E0) ≡ over (marked (seen (m + gens ws) fs) E) E0)
-          → (b : Bool) → k + (cond b 1 0 + gens ws) ≤ length E
-          → unmarked ws (k + cond b 1 0) (cond b (set (over (marked (seen k fs) E) E0) k (get_or (over (marked (seen k fs) E) E0) k 0 % 65536)) (over (marked (seen k fs) E) E0))
-          ≡ over (marked (seen (k + (cond b 1 0 + gens ws)) fs) E) E0
-      go up false l = rw (add-zero k, zero-add (gens ws)) (up k (omega arith))
-      go up true l =
-          rw (add-one k)
-          (ap (unmarked ws (suc k)) (unmark_one k (omega arith)) ∙ (up (suc k) (omega arith) ∙ ap (λ m. over (marked (seen m fs) E) E0) (shift k (gens ws))))
-        where
-          shift : (a b : ℕ) → suc a + b ≡ a + (1 + b)
-          shift a b = omega arith
+  -- and of the statics from k on, n of them
+  pub unmark_part : (n k : ℕ) → k + n ≤ length E
+      → put_mid k n (over (marked (seen k fs) E) E0) (map (λ e. e % 65536) (take n (drop k (over (marked (seen k fs) E) E0)))) ≡ over (marked (seen (k + n) fs) E) E0
+  unmark_part zero k h = rw (add-zero k) (put_same k 0 (over (marked (seen k fs) E) E0))
+  unmark_part (suc n) k h =
+      let long : k < length (over (marked (seen k fs) E) E0) =
+      omega (arith, length-append (marked (seen k fs) E) (drop (length (marked (seen k fs) E)) E0), marked_length (seen k fs) E) in
+      let shift : suc k + n ≡ k + suc n = omega arith in
+      changed_one (λ e. e % 65536) (over (marked (seen k fs) E) E0) k n long
+      ∙ (ap (λ ys. put_mid (suc k) n ys (map (λ e. e % 65536) (take n (drop (suc k) ys)))) (unmark_one k (omega arith))
+      ∙ rw shift at (unmark_part n (suc k) (omega arith)))

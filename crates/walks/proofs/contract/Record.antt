@@ -1,14 +1,13 @@
 -- A record in colours: words written one after the other from a place on, destinations and then sources.
 -- By `sets`, a run of stores, which is the words before the place, the run, and the words after it.
 use Rattle.std.specs.Prelude.{Option}
-use Prim.Native.Nat.{ℕ, suc, ◌+◌, ◌<◌, ◌≤◌}
+use Prim.Native.Nat.{ℕ, suc, ◌+◌, ◌≤◌}
 use mathlib.Core.List.{List, [], ◌∷◌, ◌++◌, map, append_assoc}
 use mathlib.Core.Path.{◌≡◌, refl, sym, ap, ◌∙◌}
 use native.Mathlib.Nat.{add-zero, add-suc, suc-add}
-use native.Mathlib.Numerals.{add-one}
 use native.Mathlib.Omega.{arith}
 use lib.ListN.{length, get_or, set, take, drop, length-append, length-map}
-use lib.Seq.{sets, sets-eq, length-sets, drop-cons, drop-drop, drop-set-lt}
+use lib.Seq.{sets, sets-eq, length-sets, drop-drop, drop-set-lt}
 use borrow.Rule.Slice.PartMut.{put_mid}
 use Rattle.mir.specs.declared.shape.Dests.{Dests}
 use Rattle.mir.specs.declared.shape.Shape.{Shape}
@@ -19,7 +18,6 @@ use Rattle.passes.specs.Color.{source_word}
 use Rattle.coloring.specs.Coloring.{source_words}
 use Rattle.walks.specs.Walks.{dest_words, rewritten}
 use Rattle.theorems.proofs.Lengths.{dests_length, sources_length}
-use Rattle.std.proofs.lemmas.List.{map-append, take_more, take_more_set}
 use Rattle.walks.proofs.contract.Partner.{dest_words_length}
 
 -- ---- a run of stores
@@ -36,24 +34,6 @@ module _ {ℓ} {A : Type ℓ} where
   pub sets_drop : (vs l : List A) (i n : ℕ) → i + length vs ≤ n → drop n (sets l i vs) ≡ drop n l
   sets_drop [] l i n h = refl
   sets_drop (a ∷ vs) l i n h = sets_drop vs (set l i a) (suc i) n (omega arith) ∙ drop-set-lt n l i a (omega arith)
-
--- words changed where they stand, those before a place being done: one word more
-module _ (f : ℕ → ℕ) (xs ws : List ℕ) (i : ℕ) (h : i < length xs) (same : length ws ≡ length xs) (done : take i ws ≡ map f (take i xs)) (left : drop i ws ≡ drop i xs) where
-  rest : get_or ws i 0 ∷ drop (suc i) ws ≡ get_or xs i 0 ∷ drop (suc i) xs
-  rest = sym (drop-cons ws i 0 (omega arith)) ∙ (left ∙ drop-cons xs i 0 h)
-
-  word : get_or ws i 0 ≡ get_or xs i 0
-  word = ap (λ l. get_or l 0 0) rest
-
-  pub changed_next : take (i + 1) (set ws i (f (get_or ws i 0))) ≡ map f (take (i + 1) xs)
-  changed_next =
-      take_more_set ws i (f (get_or ws i 0)) (omega arith)
-      ∙ (ap (λ l. l ++ f (get_or ws i 0) ∷ []) done
-      ∙ (ap (λ v. map f (take i xs) ++ f v ∷ []) word
-      ∙ (sym (map-append f (take i xs) (get_or xs i 0 ∷ [])) ∙ ap (map f) (sym (take_more xs i 0 h)))))
-
-  pub left_next : drop (i + 1) (set ws i (f (get_or ws i 0))) ≡ drop (i + 1) xs
-  left_next = drop-set-lt (i + 1) ws i (f (get_or ws i 0)) (omega arith) ∙ rw add-one (ap (drop 1) rest)
 
 -- ---- destinations
 

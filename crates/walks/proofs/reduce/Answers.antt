@@ -32,11 +32,11 @@ contract-tally-requires c =
       out_room = r.for_out;
     }
 
-pub counts_of-requires : goal.counts_of-requires
-counts_of-requires c = (
-  rw c.color-statics.ensures.statics (few_colours c.args.settings c.args.list.now c.args.table.now c.requires.passing),
-  rw (c.len.ensures, c.color-statics.ensures.set.members) (few_in_set c.args.settings c.args.list.now c.args.table.now c.requires.passing),
-)
+pub overflow_cast-result : goal.overflow_cast-result
+overflow_cast-result c = rw c.color-statics.ensures.statics (omega (arith, few_colours c.args.settings c.args.list.now c.args.table.now c.requires.passing))
+
+pub overflow_cast-result-2 : goal.overflow_cast-result-2
+overflow_cast-result-2 c = rw (c.len.ensures, c.color-statics.ensures.set.members) (omega (arith, few_in_set c.args.settings c.args.list.now c.args.table.now c.requires.passing))
 
 pub returns : goal.returns
 returns c =
@@ -48,8 +48,7 @@ returns c =
     let q = c.contract-tally.ensures table (colored s list table c.requires.passing c.args.colours.now c.create.new.ends
     (omega (arith, r.for_colours, c.color-statics.auto.colours)) (omega (arith, r.for_ends, c.color-statics.auto.ends, c.create.auto.ends)) left.colours left.ends left.set.members) in
     record {
-      counts = c.counts_of.ensures
-          ∙ counts_are s list table c.requires.passing c.contract-tally.result c.color-statics.result c.len.result q left.statics (c.len.ensures ∙ ap length left.set.members);
+      counts = counts_are s list table c.requires.passing c.contract-tally.result c.color-statics.result c.len.result q left.statics (c.len.ensures ∙ ap length left.set.members);
       out = q.out_left;
       colours = left.colours;
       ends = ends_last s list table c.requires.passing c.args.ends.now c.create.new.ends c.create.ensures left.ends q.ends_left;

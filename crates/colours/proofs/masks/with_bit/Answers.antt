@@ -1,5 +1,6 @@
 -- `colours::masks::with_bit` meets its contract: the branch's test says which law of bits holds.
 use borrow.Author.Rules.{rules}
+use mir.Syntax.{w64}
 use Rattle.colours.proofs.Bits.{has_with, has_without}
 use Rattle.colours.proofs.masks.with_bit.Goals as goal
 
@@ -9,4 +10,4 @@ returns-then-on c j =
 
 pub returns-else-on : goal.returns-else-on
 returns-else-on c j =
-    rw (c.if-on.false, c.bit-else-on.ensures) (has_without c.args.mask c.args.c j (search rules) c.requires)
+    rw (c.if-on.false, c.bit-else-on.ensures) (has_without w64 c.args.mask c.args.c j (search rules) c.requires)

@@ -9,11 +9,8 @@ use Rattle.file.proofs.layout.layout_of.Goals as goal
 pub returns : goal.returns
 returns c =
     -- the second word read is the count of records
-    let records : c.word_at-records.result ≡ record_count c.args.file.now =
-    cc in
-    let p = c.word_at-pairs.ensures in
-    let r = records in
-    rw (p, r) (layout_good _ (omega arith) (omega arith) (omega arith))
+    let records : c.word_at-records.result ≡ record_count c.args.file.now = cc in
+    rw (c.word_at-pairs.ensures, records) (layout_good _ (omega arith) (omega arith) (omega arith))
 
 pub returns-then-len-lt28 : goal.returns-then-len-lt28
 returns-then-len-lt28 c =
@@ -29,14 +26,10 @@ returns-then-len-at c =
 
 pub returns-then-records-gt512 : goal.returns-then-records-gt512
 returns-then-records-gt512 c =
-    -- the second word read is the count of records
-    let records : c.word_at-records.result ≡ record_count c.args.file.now =
-    cc in
+    let records : c.word_at-records.result ≡ record_count c.args.file.now = cc in
     layout_bad _ (λ s. omega (arith, records))
 
 pub returns-then-len-at-2 : goal.returns-then-len-at-2
 returns-then-len-at-2 c =
-    -- the second word read is the count of records
-    let records : c.word_at-records.result ≡ record_count c.args.file.now =
-    cc in
+    let records : c.word_at-records.result ≡ record_count c.args.file.now = cc in
     layout_bad _ (λ s. omega (arith, records))

@@ -3,7 +3,7 @@
 use Prim.Native.Nat.{ℕ}
 use mathlib.Core.Path.{sym}
 use native.Mathlib.Omega.{arith}
-use lib.ListN.{length-replicate}
+use lib.ListN.{replicate, length-replicate}
 use Rattle.file.proofs.FileVerdict.{good_verdict}
 use Rattle.file.proofs.Sections.{sections, table_read, list_read}
 use Rattle.file.proofs.reduce.reduce_sections.Goals as goal
@@ -28,30 +28,19 @@ pub slice_bounds-list-end : goal.slice_bounds-list-end
 slice_bounds-list-end c = omega (arith, (sections c.requires.file_value).few_records, c.read_words-2.auto.out, length-replicate {A = ℕ} 4096 0)
 
 pub slice_bounds-reduce_list-end : goal.slice_bounds-reduce_list-end
-slice_bounds-reduce_list-end c = sym (list_read _ _ c.requires.file_value c.read_words-2.ensures).count
+slice_bounds-reduce_list-end c = sym (list_read _ (replicate 4096 0) _ c.requires.file_value c.read_words-2.ensures).count
 
 pub slice_bounds-table-end : goal.slice_bounds-table-end
 slice_bounds-table-end c = omega (arith, (sections c.requires.file_value).few_pairs, c.read_words.auto.out, length-replicate {A = ℕ} 1024 0)
 
 pub slice_bounds-reduce_list-end-2 : goal.slice_bounds-reduce_list-end-2
-slice_bounds-reduce_list-end-2 c = sym (table_read _ _ c.requires.file_value c.read_words.ensures).count
-
-pub reduce_list-requires : goal.reduce_list-requires
-reduce_list-requires c =
-    let h = sections c.requires.file_value in
-    let l = (list_read _ _ c.requires.file_value c.read_words-2.ensures).count in
-    let t = (table_read _ _ c.requires.file_value c.read_words.ensures).count in
-    record {
-      list_len_bound = omega (arith, h.few_records);
-      table_len_bound = omega (arith, h.few_pairs);
-      out_room = λ room. rw l (c.requires.records_in_bounds room);
-    }
+slice_bounds-reduce_list-end-2 c = sym (table_read _ (replicate 1024 0) _ c.requires.file_value c.read_words.ensures).count
 
 pub returns : goal.returns
 returns c =
     let verdict = good_verdict (sections c.requires.file_value) c.args.room in
-    let list = list_read _ _ c.requires.file_value c.read_words-2.ensures in
-    let table = table_read _ _ c.requires.file_value c.read_words.ensures in
+    let list = list_read _ (replicate 4096 0) _ c.requires.file_value c.read_words-2.ensures in
+    let table = table_read _ (replicate 1024 0) _ c.requires.file_value c.read_words.ensures in
     rw (← verdict, ← c.settings_at-settings.ensures, ← list.are, ← table.are) c.reduce_list.ensures
 
 pub settings_at-settings-requires : goal.settings_at-settings-requires

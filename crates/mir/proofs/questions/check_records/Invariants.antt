@@ -3,11 +3,11 @@
 use mathlib.Core.Path.{◌≡◌}
 use Rattle.mir.specs.Branches.{past_to}
 use Rattle.mir.specs.Records.{records}
-use Rattle.mir.specs.Renaming.{regs_to, statics_to}
 use Rattle.mir.specs.Questions.{record_by}
 use Rattle.mir.proofs.Folds.{Unrefused}
+use Rattle.mir.proofs.Renaming.{Walked}
 use Rattle.mir.proofs.questions.check_records.Given as goal
 
 abbrev pub invariant-loop-i : goal.invariant-loop-i
 invariant-loop-i l =
-    Unrefused (record_by l.table l.count_regs l.list) (records l.list) l.i × (l.regs ≡ regs_to l.list l.i) × (l.statics ≡ statics_to l.list l.i) × (l.past ≡ past_to l.list l.i)
+    Unrefused (record_by l.table l.count_regs l.list) (records l.list) l.i × Walked l.list l.i l.renaming × (l.past ≡ past_to l.list l.i)

@@ -8,5 +8,7 @@ unfolding record_at
 returns c =
     record {
       len = c.as_chunks.ensures.front_len;
-      each = λ i h. rw c.as_chunks.ensures.front (chunk_is 8 (records c.args.list.now) i c.args.list.now h);
+      each = λ i h.
+          let l = rw c.as_chunks.ensures.front_len at h in
+          (l, rw c.as_chunks.ensures.front (chunk_is 8 (records c.args.list.now) i c.args.list.now l));
     }

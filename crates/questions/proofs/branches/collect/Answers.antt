@@ -1,6 +1,6 @@
 -- `questions::branches::collect` meets its contract: the branches passed are in the table, and the first always gets in.
 -- By what a number that is put leaves in the table; the first finds the table empty.
-use Prim.Native.Nat.{ℕ, ◌+◌, ◌*◌, ◌<◌}
+use Prim.Native.Nat.{ℕ, ◌+◌, ◌-◌, ◌*◌, ◌<◌}
 use mathlib.Core.Bool.{Bool, true, false, not}
 use mathlib.Core.List.{List}
 use mathlib.Core.Logic.{⊎_elim}
@@ -14,7 +14,8 @@ use Rattle.mir.specs.Branches.{label_of}
 use Rattle.questions.specs.Table.{slot_of, Empty, Put}
 use Rattle.mir.specs.Records.{record_at}
 use Rattle.mir.proofs.Folds.{below_suc}
-use Rattle.questions.proofs.Targets.{slot_below}
+use Rattle.mir.proofs.Records.{rows_are}
+use Rattle.questions.proofs.Targets.{slot_below, part_at}
 use Rattle.questions.proofs.branches.collect.Invariants.{Collecting}
 use Rattle.questions.proofs.branches.collect.Goals as goal
 
@@ -46,11 +47,15 @@ module _ {list table₀ table : List ℕ} {from i : ℕ} (h : Collecting list ta
 
 pub returns-then-not-put_branch : goal.returns-then-not-put_branch
 returns-then-not-put_branch c =
-    let h = c.loop-i.invariant.1 in
+    let h = c.loop-k.invariant.1 in
     let items = c.records_of-records.ensures in
-    let put = rw (items.each c.loop-i.i (rw items.len at c.loop-i-test.true)) at c.put_branch.ensures in
+    let rows = c.records_of-records.result.now in
+    let at = c.args.from + c.loop-k.k in
+    let shift : at - c.args.from ≡ c.loop-k.k = omega arith in
+    let is = rw shift at (part_at c.args.list.now rows {from = c.args.from} {until = length rows} (rows_are c.args.list.now rows items.len items.each) (omega (arith, items.len)) at (omega arith) (omega arith)) in
+    let put = rw is at c.put_branch.ensures in
     record {
       more = stops h c.requires.empty put (not-true _ (ap not c.if-not-put_branch.true));
-      within = c.loop-i.invariant.0;
+      within = c.loop-k.invariant.0;
       held = λ k a l b. put.kept _ (h.held k a l b);
     }

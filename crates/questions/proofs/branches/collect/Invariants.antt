@@ -1,6 +1,6 @@
 -- `questions::branches::collect` meets its contract: the branches passed are in the table, and the first always gets in.
 -- By what a number that is put leaves in the table; the first finds the table empty.
-use Prim.Native.Nat.{ℕ, ◌≤◌, ◌<◌}
+use Prim.Native.Nat.{ℕ, ◌+◌, ◌≤◌, ◌<◌}
 use mathlib.Core.Bool.{true}
 use mathlib.Core.List.{List}
 use mathlib.Core.Path.{◌≡◌}
@@ -17,5 +17,5 @@ pub record Collecting (list table₀ table : List ℕ) (from i : ℕ) : Type 0 w
   pub untouched : i ≡ from → table ≡ table₀
   pub held : (k : ℕ) → from ≤ k → k < i → is_branch (record_at list k) ≡ true → holds table (label_of (record_at list k)) ≡ true
 
-abbrev pub invariant-loop-i : goal.invariant-loop-i
-invariant-loop-i l = (l.i ≤ records l.list) × Collecting l.list l.initial.table l.table l.from l.i
+abbrev pub invariant-loop-k : goal.invariant-loop-k
+invariant-loop-k l = (l.from + l.k ≤ records l.list) × Collecting l.list l.initial.table l.table l.from (l.from + l.k)

@@ -8,22 +8,22 @@ use Rattle.questions.proofs.branches.put_branch.Goals as goal
 
 pub returns-in_default : goal.returns-in_default
 returns-in_default c =
-    let no = goes_nowhere _ c.target_of-target.ensures c.in_default.is in
+    let no = goes_nowhere _ c.target_of.ensures c.in_default.is in
     record { kept = λ number h. h; there = λ done b. cc; full = λ done p e. cc }
 
 pub returns-then-is_in : goal.returns-then-is_in
 returns-then-is_in c =
-    let to = goes_to _ c.target_of-target.ensures c.in-Some.is in
+    let to = goes_to _ c.target_of.ensures c.in-Some.is in
     record {
       kept = λ number h. h;
       there = λ done b. rw to.1 (sym c.is_in.ensures ∙ c.if-is_in.true);
       full = λ done p e. cc;
     }
 
-pub returns-in_default-room : goal.returns-in_default-room
-returns-in_default-room c =
-    let to = goes_to _ c.target_of-target.ensures c.in-Some.is in
-    let full = rw c.in_default-room.is at c.find_room-room.ensures.room in
+pub returns-in_default-find_room : goal.returns-in_default-find_room
+returns-in_default-find_room c =
+    let to = goes_to _ c.target_of.ensures c.in-Some.is in
+    let full = rw c.in_default-find_room.is at c.find_room.ensures.room in
     record {
       kept = λ number h. h;
       there = λ done b. cc;
@@ -32,9 +32,9 @@ returns-in_default-room c =
 
 pub returns : goal.returns
 returns c =
-    let to = goes_to _ c.target_of-target.ensures c.in-Some.is in
-    let room = rw c.in-Some-room.is at c.find_room-room.ensures.room in
-    let below : c.in-Some-room.p < 4096 = rw c.in-Some-room.is at c.find_room-room.ensures.below in
+    let to = goes_to _ c.target_of.ensures c.in-Some.is in
+    let room = rw c.in-Some-find_room.is at c.find_room.ensures.room in
+    let below : c.in-Some-find_room.p < 4096 = rw c.in-Some-find_room.is at c.find_room.ensures.below in
     let table = c.args.table.now in
     let len = c.requires in
     record {

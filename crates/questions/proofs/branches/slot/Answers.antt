@@ -9,6 +9,6 @@ pub returns : goal.returns
 unfolding slot_of
 returns c =
     record {
-      is = refl;
+      is = rw c.from.ensures refl;
       below = search rules;
     }

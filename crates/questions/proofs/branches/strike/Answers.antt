@@ -25,8 +25,8 @@ loop-rec-preserved c =
     let i = c.loop-rec.rec-index in
     let inv = c.loop-rec.invariant in
     let items = c.records_of-rec-items.ensures in
-    let l = rw items.len at c.loop-rec-test.true in (
+    let here = items.each i c.loop-rec-test.true in (
       search rules,
       c.strike_label.auto.table ∙ inv.1,
-      λ t. rw (add-one, c.strike_label.ensures t, items.each i l, inv.2 t) (one_more (holds c.args.table.now t) (any_below i (label_at list t)) (label_at list t i)),
+      λ t. rw (add-one, c.strike_label.ensures t, here.1, inv.2 t) (one_more (holds c.args.table.now t) (any_below i (label_at list t)) (label_at list t i)),
     )

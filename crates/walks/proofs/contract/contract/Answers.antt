@@ -1,16 +1,19 @@
 -- `walks::contract::contract` meets its contract: before each record the output, the ends and the counts are the
 -- definitions', by what `Contracting` says of a record.
-use Prim.Native.Nat.{ℕ, ◌≤◌}
+use Prim.Native.Nat.{ℕ, ◌-◌, ◌≤◌}
 use mathlib.Core.List.{List, []}
+use mathlib.Core.Path.{◌≡◌, refl}
 use native.Mathlib.Omega.{arith}
 use lib.ListN.{length, get_or}
-use Rattle.mir.proofs.Renaming.{gens_two}
+use Rattle.mir.specs.Renaming.{gens}
+use Rattle.mir.specs.Shapes.{dests}
+use Rattle.mir.proofs.Renaming.{gens_two, walked_first, walked_next}
 use Rattle.mir.specs.declared.config.Settings.{Settings}
 use Rattle.passes.specs.declared.symbol.Loc.{Loc}
 use Rattle.sets.specs.Members.{members_in}
 use Rattle.walks.specs.Walks.{Colored}
 use Rattle.walks.proofs.contract.Invariant.{Call, contracting_first, contract_asks, contracting_next, contracted}
-use Rattle.lives.proofs.Registers.{walked_first, walked_next, turn}
+use Rattle.lives.proofs.Registers.{turn}
 use borrow.Author.Rules.{rules}
 use Rattle.walks.proofs.contract.contract.Goals as goal
 
@@ -33,50 +36,58 @@ call_of list colours ends members out room_out s table colored =
 pub loop-rec-init : goal.loop-rec-init
 loop-rec-init c =
     let called = call_of c.args.list.now c.args.colours.now c.args.ends.now (members_in c.args.set.now) c.args.out.now c.requires.out_room in
-    (search rules, (walked_first c.args.list.now, λ s table f col. contracting_first (called s table col)))
+    (search rules, (walked_first c.args.list.now c.new-renaming.ensures.regs c.new-renaming.ensures.statics, λ s table f col. contracting_first (called s table col) {t = c.default-tally.result} c.default-tally.ensures))
 
 -- ---- one turn: the record, and then the calls in their order
 
 pub contract_record-requires : goal.contract_record-requires
 contract_record-requires c =
-    let items = c.records_of-rec-items.ensures in
-    let l = rw items.len at c.loop-rec-test.true in
+    let here = c.records_of-rec-items.ensures.each c.loop-rec.rec-index c.loop-rec-test.true in
     let own = call_of c.args.list.now c.args.colours.now c.args.ends.now (members_in c.args.set.now) c.args.out.now c.requires.out_room c.args.settings c.requires.colored.0 c.requires.colored.1 in
     let kept = c.loop-rec.invariant.1.1 c.args.settings c.requires.colored.0 c.fixed-fixed.ensures c.requires.colored.1 in
-    let rest = contract_asks own kept l c.loop-rec.invariant.1.0 (items.each c.loop-rec.rec-index l) in
+    let rest = contract_asks own kept here.0 c.loop-rec.invariant.1.0 here.1 in
     record {
-      partner_fits = rest.1;
-      colours_room = rest.2;
-      ends_room = rest.3;
-      known_in = rest.4;
-      short = rest.5;
-      records_in_bounds = rest.6;
+      partner_fits = rest.0;
+      colours_room = rest.1;
+      ends_room = rest.2;
+      short = rest.3;
+      records_in_bounds = rest.4;
     }
 
-pub rename-requires : goal.rename-requires
-rename-requires c =
-    let l = rw c.records_of-rec-items.ensures.len at c.loop-rec-test.true in
-    omega (arith, turn _ (c.args.settings, c.requires.colored.0, c.requires.colored.1.passing) c.loop-rec.rec-index l c.loop-rec.invariant.1.0)
+pub pass-requires : goal.pass-requires
+pass-requires c =
+    let here = c.records_of-rec-items.ensures.each c.loop-rec.rec-index c.loop-rec-test.true in
+    omega (arith, turn _ (c.args.settings, c.requires.colored.0, c.requires.colored.1.passing) c.loop-rec.rec-index here.0 c.loop-rec.invariant.1.0)
 
-pub overflow_add-statics : goal.overflow_add-statics
-overflow_add-statics c =
-    let l = rw c.records_of-rec-items.ensures.len at c.loop-rec-test.true in
-    rw c.count_statics-statics.ensures
-    (omega (arith, turn _ (c.args.settings, c.requires.colored.0, c.requires.colored.1.passing) c.loop-rec.rec-index l c.loop-rec.invariant.1.0, gens_two (get_or c.records_of-rec-items.result.now c.loop-rec.rec-index [])))
+pub offset_bounds-ends-first : goal.offset_bounds-ends-first
+offset_bounds-ends-first c =
+    let here = c.records_of-rec-items.ensures.each c.loop-rec.rec-index c.loop-rec-test.true in
+    omega (arith, turn _ (c.args.settings, c.requires.colored.0, c.requires.colored.1.passing) c.loop-rec.rec-index here.0 c.loop-rec.invariant.1.0)
+
+pub slice_bounds-unmark-end : goal.slice_bounds-unmark-end
+slice_bounds-unmark-end c =
+    let here = c.records_of-rec-items.ensures.each c.loop-rec.rec-index c.loop-rec-test.true in
+    omega (
+      arith,
+      turn _ (c.args.settings, c.requires.colored.0, c.requires.colored.1.passing) c.loop-rec.rec-index here.0 c.loop-rec.invariant.1.0,
+      c.pass.ensures.statics,
+      gens_two (get_or c.records_of-rec-items.result.now c.loop-rec.rec-index []),
+      c.requires.colored.1.ends_room,
+      c.loop-rec.auto.ends,
+    )
 
 pub loop-rec-preserved : goal.loop-rec-preserved
 loop-rec-preserved c =
-    let items = c.records_of-rec-items.ensures in
-    let l = rw items.len at c.loop-rec-test.true in
+    let here = c.records_of-rec-items.ensures.each c.loop-rec.rec-index c.loop-rec-test.true in
     let called = call_of c.args.list.now c.args.colours.now c.args.ends.now (members_in c.args.set.now) c.args.out.now c.requires.out_room in
     let inv = c.loop-rec.invariant in
-    let e = items.each c.loop-rec.rec-index l in (
-      omega (arith, l),
+    let made : c.pass.new.self.statics - c.loop-rec.renaming.statics ≡ gens (dests (get_or c.records_of-rec-items.result.now c.loop-rec.rec-index [])) = omega (arith, c.pass.ensures.statics) in (
+      omega (arith, here.0),
       (
-        walked_next (get_or c.records_of-rec-items.result.now c.loop-rec.rec-index []) inv.1.0 e c.rename.ensures c.count_statics-statics.ensures,
+        walked_next inv.1.0 here.1 c.pass.ensures.regs c.pass.ensures.statics,
         λ s table f col.
-            contracting_next (called s table col) (inv.1.1 s table f col) l inv.1.0 e
-            c.fixed-fixed.result f c.contract_record.ensures.tally c.contract_record.ensures.ends c.contract_record.ensures.out,
+            contracting_next (called s table col) (inv.1.1 s table f col) here.0 inv.1.0 here.1
+            c.fixed-fixed.result f made c.contract_record.ensures.tally (rw c.unmark.ensures refl) c.contract_record.ensures.out,
       ),
     )
 

@@ -6,5 +6,5 @@ use Rattle.walks.proofs.contract.contract_record.Goals as goal
 
 pub outcome_of-outcome-requires : goal.outcome_of-outcome-requires
 outcome_of-outcome-requires c =
-    let e = written_partner c.args.regs.now c.args.next c.args.colours.now c.args.rec (omega arith) c.requires.partner_fits in
+    let e = written_partner c.args.renaming.now.regs c.args.renaming.now.statics c.args.colours.now c.args.rec.now (omega arith) c.requires.partner_fits in
     rw c.rewrite-written.ensures e

@@ -1,57 +1,54 @@
 -- `walks::contract::rewrite_dests` meets its contract: x is written before y, and both stand in the record.
-use Prim.Native.Nat.{◌+◌, ◌≤◌}
-use mathlib.Core.Path.{sym, ap, ◌∙◌}
+use Prim.Native.Nat.{ℕ, ◌+◌, ◌≤◌}
+use mathlib.Core.List.{List}
+use mathlib.Core.Path.{◌≡◌, sym, ap, ◌∙◌}
 use native.Mathlib.Numerals.{add-one}
 use native.Mathlib.Omega.{arith}
 use lib.ListN.{length}
+use Rattle.mir.specs.declared.shape.Dests.{Dests}
+use Rattle.mir.specs.declared.shape.Dests.TheVariants.{One, Two}
+use Rattle.mir.specs.declared.shape.Shape.{Shape}
 use Rattle.mir.specs.Inner.{listed}
+use Rattle.mir.specs.Shapes.{shape_for, dests}
 use Rattle.walks.specs.Walks.{dest_words}
 use Rattle.walks.proofs.contract.Record.{dests_room}
 use Rattle.walks.proofs.contract.rewrite_dests.Goals as goal
 
+-- the places that are written are the record's
+module _ (rec : List ℕ) {s : Shape} {d : Dests} (same : s ≡ shape_for rec) (len : length rec ≡ 8) (e : listed d ≡ dests rec) where
+  room_one : {x : ℕ} → d ≡ One x → s.regs + 1 ≤ 8
+  room_one is = rw (ap length (ap listed is)) at (dests_room rec s d same len e)
+
+  room_two : {x y : ℕ} → d ≡ Two x y → s.regs + 2 ≤ 8
+  room_two is = rw (ap length (ap listed is)) at (dests_room rec s d same len e)
+
 pub offset_bounds-out-p : goal.offset_bounds-out-p
 offset_bounds-out-p c =
-    -- the places that are written
-    let room_one : c.shape_of-s.result.regs + 1 ≤ 8 =
-    rw (ap length (ap listed c.in-One.is)) at (dests_room c.args.rec c.shape_of-s.result c.dests_of.result c.shape_of-s.ensures (omega arith) c.dests_of.ensures) in
-    omega (arith, room_one)
+    omega (arith, room_one c.args.rec.now c.shape_of-s.ensures (omega arith) c.dests_of.ensures c.in-One.is)
 
 pub bounds-out-p : goal.bounds-out-p
 bounds-out-p c =
-    -- the places that are written
-    let room_one : c.shape_of-s.result.regs + 1 ≤ 8 =
-    rw (ap length (ap listed c.in-One.is)) at (dests_room c.args.rec c.shape_of-s.result c.dests_of.result c.shape_of-s.ensures (omega arith) c.dests_of.ensures) in
-    omega (arith, room_one)
+    omega (arith, room_one c.args.rec.now c.shape_of-s.ensures (omega arith) c.dests_of.ensures c.in-One.is)
 
 pub offset_bounds-out-p-in-Two : goal.offset_bounds-out-p-in-Two
 offset_bounds-out-p-in-Two c =
-    let room_two : c.shape_of-s.result.regs + 2 ≤ 8 =
-    rw (ap length (ap listed c.in-Two.is)) at (dests_room c.args.rec c.shape_of-s.result c.dests_of.result c.shape_of-s.ensures (omega arith) c.dests_of.ensures) in
-    omega (arith, room_two)
+    omega (arith, room_two c.args.rec.now c.shape_of-s.ensures (omega arith) c.dests_of.ensures c.in-Two.is)
 
 pub bounds-out-p-in-Two : goal.bounds-out-p-in-Two
 bounds-out-p-in-Two c =
-    let room_two : c.shape_of-s.result.regs + 2 ≤ 8 =
-    rw (ap length (ap listed c.in-Two.is)) at (dests_room c.args.rec c.shape_of-s.result c.dests_of.result c.shape_of-s.ensures (omega arith) c.dests_of.ensures) in
-    omega (arith, room_two)
+    omega (arith, room_two c.args.rec.now c.shape_of-s.ensures (omega arith) c.dests_of.ensures c.in-Two.is)
 
 pub overflow_add-out : goal.overflow_add-out
 overflow_add-out c =
-    let room_two : c.shape_of-s.result.regs + 2 ≤ 8 =
-    rw (ap length (ap listed c.in-Two.is)) at (dests_room c.args.rec c.shape_of-s.result c.dests_of.result c.shape_of-s.ensures (omega arith) c.dests_of.ensures) in
-    omega (arith, room_two)
+    omega (arith, room_two c.args.rec.now c.shape_of-s.ensures (omega arith) c.dests_of.ensures c.in-Two.is)
 
 pub offset_bounds-out-p-in-Two-2 : goal.offset_bounds-out-p-in-Two-2
 offset_bounds-out-p-in-Two-2 c =
-    let room_two : c.shape_of-s.result.regs + 2 ≤ 8 =
-    rw (ap length (ap listed c.in-Two.is)) at (dests_room c.args.rec c.shape_of-s.result c.dests_of.result c.shape_of-s.ensures (omega arith) c.dests_of.ensures) in
-    omega (arith, room_two)
+    omega (arith, room_two c.args.rec.now c.shape_of-s.ensures (omega arith) c.dests_of.ensures c.in-Two.is)
 
 pub bounds-out-p-in-Two-2 : goal.bounds-out-p-in-Two-2
 bounds-out-p-in-Two-2 c =
-    let room_two : c.shape_of-s.result.regs + 2 ≤ 8 =
-    rw (ap length (ap listed c.in-Two.is)) at (dests_room c.args.rec c.shape_of-s.result c.dests_of.result c.shape_of-s.ensures (omega arith) c.dests_of.ensures) in
-    omega (arith, room_two)
+    omega (arith, room_two c.args.rec.now c.shape_of-s.ensures (omega arith) c.dests_of.ensures c.in-Two.is)
 
 pub returns-in-Nothing : goal.returns-in-Nothing
 unfolding dest_words

@@ -1,25 +1,16 @@
--- `walks::contract::unmark` meets its contract: x is unmarked before y.
-use mathlib.Core.List.{[], ◌∷◌}
-use mathlib.Core.Path.{◌≡◌}
-use Rattle.walks.specs.Walks.{unmarked}
-use Rattle.mir.specs.Shapes.{dests}
-use Rattle.mir.proofs.Shapes.{dests_told}
+-- `walks::contract::unmark` meets its contract: the ends before the index have no mark, all else as it was.
+-- By one end more.
+use Prim.Native.Nat.{◌%◌}
+use mathlib.Core.Path.{◌∙◌}
+use native.Mathlib.Omega.{arith}
+use Rattle.colours.proofs.Mapped.{mapped_zero, mapped_more, mapped_all}
 use Rattle.walks.proofs.contract.unmark.Goals as goal
 
-pub returns-in-Nothing : goal.returns-in-Nothing
-unfolding unmarked
-returns-in-Nothing c = rw (dests_told c.dests_of.ensures c.in-Nothing.is)
+pub loop-end-init : goal.loop-end-init
+loop-end-init c = mapped_zero (λ end. end % 65536) _
 
-pub returns-in-One : goal.returns-in-One
-unfolding unmarked
-returns-in-One c =
-    let one : dests c.args.rec ≡ c.in-One.x ∷ [] =
-    dests_told c.dests_of.ensures c.in-One.is in
-    rw one c.unmark_static.ensures
+pub loop-end-preserved : goal.loop-end-preserved
+loop-end-preserved c = mapped_more (λ end. end % 65536) c.args.ends.now c.loop-end.end-index 0 c.loop-end-test.true c.loop-end.invariant
 
-pub returns-in-Two : goal.returns-in-Two
-unfolding unmarked
-returns-in-Two c =
-    let two : dests c.args.rec ≡ c.in-Two.x ∷ c.in-Two.y ∷ [] =
-    dests_told c.dests_of.ensures c.in-Two.is in
-    rw (two, ← c.unmark_static-in-Two.ensures, ← c.count_static.ensures) c.unmark_static-in-Two-2.ensures
+pub returns : goal.returns
+returns c = c.loop-end.invariant ∙ mapped_all (λ end. end % 65536) c.args.ends.now c.loop-end.end-index (omega arith)

@@ -14,22 +14,22 @@ use Rattle.colours.proofs.Steps.{past_same}
 use Rattle.colours.proofs.allocs.Allocs.clear.Goals as goal
 
 pub loop-c-init : goal.loop-c-init
-loop-c-init c = (search rules, λ i allocs s. stands_as s (mapped_zero (without _) allocs))
+loop-c-init c = (search rules, λ n i allocs s. stands_as s (mapped_zero (without _) allocs))
 
 pub loop-c-preserved : goal.loop-c-preserved
 loop-c-preserved c =
     let k = c.loop-c.c in
     let f = without (loc_in c.args.l) in (
       search rules,
-      λ i allocs s.
+      λ n i allocs s.
           let within : k < length allocs = omega (arith, s.masked.size, s.masked.few) in
-          stands_as (c.clear_at.ensures _ i _ c.loop-c-test.true (c.loop-c.invariant.1 i allocs s))
+          stands_as (c.clear_at.ensures n i _ (rw s.count at c.loop-c-test.true) (c.loop-c.invariant.1 n i allocs s))
           (ap (λ a. set (mapped_to f allocs k) k (f a)) (mapped_at f allocs k (alloc 0 None) within) ∙ mapped_next f allocs k (alloc 0 None) within),
     )
 
 pub returns : goal.returns
-returns c i allocs s =
+returns c n i allocs s =
     let f = without (loc_in c.args.l) in
-    let e : c.loop-c.c ≡ c.args.n = omega (arith, c.loop-c.invariant.0) in
-    stands_as (c.loop-c.invariant.1 i allocs s)
-    (ap (mapped_to f allocs) e ∙ mapped_rest f allocs c.args.n (alloc 0 None) (rw s.masked.size s.masked.few) (past_same s.masked (loc_in c.args.l)))
+    let e : c.loop-c.c ≡ n = omega (arith, c.loop-c.invariant.0, s.count) in
+    stands_as (c.loop-c.invariant.1 n i allocs s)
+    (ap (mapped_to f allocs) e ∙ mapped_rest f allocs n (alloc 0 None) (rw s.masked.size s.masked.few) (past_same s.masked (loc_in c.args.l)))

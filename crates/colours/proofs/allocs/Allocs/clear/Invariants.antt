@@ -10,4 +10,4 @@ use Rattle.colours.proofs.allocs.Allocs.clear.Given as goal
 
 abbrev pub invariant-loop-c : goal.invariant-loop-c
 invariant-loop-c l =
-    (l.c ≤ l.n) × ((i : ℕ) (allocs : List Alloc) → Stands l.n i l.initial.self allocs → Stands l.n i l.self (mapped_to (without (loc_in l.l)) allocs l.c))
+    (l.c ≤ l.initial.self.count) × ((n i : ℕ) (allocs : List Alloc) → Stands n i l.initial.self allocs → Stands n i l.self (mapped_to (without (loc_in l.l)) allocs l.c))

@@ -4,8 +4,8 @@ use Rattle.mir.proofs.config.Settings.fixed.Goals as goal
 
 pub returns-then-self : goal.returns-then-self
 unfolding fixed_mark
-returns-then-self c = rw c.if-self.true
+returns-then-self c = rw (c.if-self.true, c.from-args.ensures)
 
 pub returns-else-self : goal.returns-else-self
 unfolding fixed_mark
-returns-else-self c = rw c.if-self.false
+returns-else-self c = rw (c.if-self.false, c.from-args.ensures)
