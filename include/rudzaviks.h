@@ -15,7 +15,8 @@
  * by a test:
  *
  *   rudzaviks_survey                                       1,024
- *   rudzaviks_optimize, the list being refused            18,432
+ *   rudzaviks_optimize, the list being refused by 16      18,432
+ *   rudzaviks_optimize, by any other question              1,536
  *   rudzaviks_optimize, 4,096 records or 65,536           27,648
  *   rudzaviks_reduce                                      84,992
  */

@@ -18,7 +18,9 @@ use rudzaviks::ffi::{optimize_word, reduce_word, survey_word, Buffers, PARTS};
 
 /// What the documents state, in bytes.
 const SURVEY: usize = 1_024;
-const REFUSED: usize = 18_432;
+const REFUSED: usize = 1_536;
+/// Question 16 has a table on the stack, and is put once all others have passed.
+const REFUSED_BY_16: usize = 18_432;
 const REDUCED: usize = 27_648;
 const FILE: usize = 84_992;
 
@@ -131,9 +133,8 @@ fn a_refusal_takes_little() {
     for number in [9, 15, 16] {
         for records in [3, 4_096, 65_536] {
             let (what, list) = (format!("refused by {number}"), refused(records, number));
-            // question 16 has a table on the stack, and is put once all others have passed
-            let least = if number == 16 { REFUSED / 2 } else { 0 };
-            let word = optimize(&what, least, REFUSED, &list);
+            let most = if number == 16 { REFUSED_BY_16 } else { REFUSED };
+            let word = optimize(&what, most / 2, most, &list);
             assert_eq!(word, (number << 32) | (records as u64 - 1));
         }
     }
@@ -193,7 +194,7 @@ fn the_documents_state_these_numbers() {
     for document in ["include/rudzaviks.h", "docs/FORMAT.md", "docs/GUARANTEES.md"] {
         let path = format!("{}/../{document}", env!("CARGO_MANIFEST_DIR"));
         let text = fs::read_to_string(path).expect("the document is there");
-        for number in [SURVEY, REFUSED, REDUCED, FILE] {
+        for number in [SURVEY, REFUSED, REFUSED_BY_16, REDUCED, FILE] {
             assert!(text.contains(&written(number)), "{document} does not state {number} bytes");
         }
     }
