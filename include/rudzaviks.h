@@ -12,13 +12,15 @@
  * with questions 1 to 4. It changes nothing that was lent.
  *
  * Stack that a call takes at most, in bytes beyond the caller's frame; not proved, but measured on lists of all kinds, and held
- * by a test:
+ * by a test. For a list that is reduced it goes by how many words its set must have:
  *
  *   rudzaviks_survey                                       1,024
  *   rudzaviks_optimize, the list being refused by 16      18,432
  *   rudzaviks_optimize, by any other question              1,536
- *   rudzaviks_optimize, 4,096 records or 65,536           27,648
- *   rudzaviks_reduce                                      84,992
+ *   rudzaviks_optimize, a set of at most 3,072 words      18,432
+ *   rudzaviks_optimize, a set of at most 20,480 words     76,800
+ *   rudzaviks_optimize, a longer set                   1,084,416
+ *   rudzaviks_reduce                                      75,776
  */
 #ifndef RUDZAVIKS_H
 #define RUDZAVIKS_H

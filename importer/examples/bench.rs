@@ -1,7 +1,8 @@
 //! Times the original and the port on the same lists, and prints four tables of both: of `optimize`
 //! by kinds, registers, length and locations; where half of the records are branches, by its
 //! labels; of `survey`, which is the original's `used_registers` and `populate_labels` together;
-//! and of `optimize` where the cells were made to be in one another's way.
+//! and of `optimize` where the cells were made to be in one another's way, in one tree of the
+//! port's read set.
 //!
 //! `cargo run --release --offline --example bench`, in importer/. Timed is the work on lists that
 //! are prepared: the unchanged original's on its own form of the list, and the port's C entry on
@@ -17,12 +18,10 @@
 //! With the word `smoke` every row of every table is run once on few records, and one row under
 //! valgrind: its times mean nothing, but the port's answers are held to the same.
 
-use std::collections::HashSet;
 use std::env;
 use std::fs;
 use std::hint::black_box;
 use std::io::ErrorKind;
-use std::iter;
 use std::process::{id, Command};
 use std::time::{Duration, Instant};
 
@@ -52,6 +51,9 @@ const LENGTHS: [usize; 4] = [64, 512, LONG[0], LONG[1]];
 
 /// The lengths that show how the time of one record grows with their number.
 const LONG: [usize; 2] = [4_096, 65_536];
+
+/// A length for each size that the port's index of the read set comes in.
+const COLLIDING: [usize; 3] = [LENGTHS[1], LONG[0], LONG[1]];
 
 /// Numbers of registers. The other tables have FEW.
 const REGISTERS: [u32; 3] = [FEW, 32, 64];
@@ -161,34 +163,40 @@ fn branching(records: usize, labels: u32, number: Number) -> List {
     List { settings, table: Vec::new(), words }
 }
 
-/// The cells of the last table are chosen to fall together in an index that goes by multiplying:
-/// space s and index i are mixed to (i * MIX + s * 1,000,003) mod 2^32, and that times HEADS, by
-/// 2^32, is the chain. Today's port has a bit for each near cell and looks through the others one
-/// by one, so that it takes the same time for both kinds of cells.
-const HEADS: u32 = 32_768;
+/// The port's read set mixes the index of a Stack cell to `index * MIX` mod 2^32, and that times the
+/// number of heads, by 2^32, is the cell's head. Below a head is a tree, which goes by the bits of
+/// the index, lowest first.
 const MIX: u32 = 2_654_435_769;
 
 /// Times MIX, mod 2^32, this is 1.
 const INVERSE: u32 = 340_573_321;
 const _: () = assert!(MIX.wrapping_mul(INVERSE) == 1);
 
-/// A way to choose so many distinct Stack cells.
-type Choice = fn(usize) -> Vec<u32>;
-
-const CELLS: [(&str, Choice); 2] = [("any", any_cells), ("in one chain", cells_in_one_chain)];
-
-fn any_cells(count: usize) -> Vec<u32> {
-    let mut random = Random::new(count as u64);
-    let mut seen = HashSet::new();
-    iter::repeat_with(|| random.word()).filter(|cell| seen.insert(*cell)).take(count).collect()
+/// How many heads there are for a list of so many records that has no table.
+fn heads(records: usize) -> u32 {
+    match records * 4 {
+        0..=3_072 => 1_024,
+        3_073..=20_480 => 4_096,
+        _ => 32_768,
+    }
 }
 
-/// The cells that come to 0, 1, 2 and so on once they are mixed: all of the first chain.
-fn cells_in_one_chain(count: usize) -> Vec<u32> {
-    let first_head = 0..=u32::MAX / HEADS;
-    let cells: Vec<u32> = first_head.map(|mixed| mixed.wrapping_mul(INVERSE)).take(count).collect();
-    assert!(cells.len() == count, "the first head has no more than {} cells", cells.len());
-    cells
+/// How far apart the cells of a list come to lie once they are mixed, by how many they are.
+type Apart = fn(usize) -> u32;
+
+/// Neighbours are spread over all heads. The cells below one head come to 0, 1, 2 and so on; or,
+/// for long paths, they lie as far apart as that head has room for. For each length here that is a
+/// power of two, so that the cells agree in as many low bits as so many cells can.
+const CELLS: [(&str, Apart); 3] = [
+    ("neighbours", |_| MIX),
+    ("below one head", |_| 1),
+    ("below one head, on long paths", |count| (u32::MAX / heads(count) + 1) / count as u32),
+];
+
+/// So many distinct cells.
+fn cells(count: usize, apart: Apart) -> Vec<u32> {
+    let mixed = |at: usize| (at as u32).wrapping_mul(apart(count));
+    (0..count).map(|at| mixed(at).wrapping_mul(INVERSE)).collect()
 }
 
 /// A list that loads each of the cells once.
@@ -365,10 +373,10 @@ fn print_survey(size: Size) {
 fn print_collisions(size: Size) {
     println!("\n| records | cells | original, ns | port, ns | port / original |");
     println!("|--:|---|--:|--:|--:|");
-    for length in LONG {
+    for length in COLLIDING {
         let records = length.min(size.records);
-        for (how, cells) in CELLS {
-            let lists = vec![loading(&cells(records)); size.records / records];
+        for (how, apart) in CELLS {
+            let lists = vec![loading(&cells(records, apart)); size.records / records];
             let times = optimize_times(&lists, size.runs);
             println!("{}", row_text(&format!("{records} | {how}"), times));
         }

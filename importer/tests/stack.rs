@@ -11,6 +11,7 @@ use std::slice;
 
 use harness::file::{encode, room};
 use harness::kinds::{branch, branch_if, label, load_const, mov, nop, RET};
+use harness::limits::{MOST_PAIRS, MOST_RECORDS};
 use harness::lists::{list, List, Profile};
 use harness::random::Random;
 use harness::settings::Settings;
@@ -21,8 +22,18 @@ const SURVEY: usize = 1_024;
 const REFUSED: usize = 1_536;
 /// Question 16 has a table on the stack, and is put once all others have passed.
 const REFUSED_BY_16: usize = 18_432;
-const REDUCED: usize = 27_648;
-const FILE: usize = 84_992;
+const FILE: usize = 75_776;
+
+/// For a list that is reduced, by the words that its set must have. Beside the bytes are the lists
+/// that are run, as records and pairs, the largest of each class among them.
+const REDUCED: [(usize, &[(usize, usize)]); 3] = [
+    (18_432, &[(0, 0), (1, 0), (512, 512), (768, 0)]),
+    (76_800, &[(512, 513), (769, 0), (4_096, 2_048), (5_120, 0)]),
+    (1_084_416, &[(4_096, 2_049), (5_121, 0), (MOST_RECORDS, 0), (MOST_RECORDS, MOST_PAIRS)]),
+];
+
+/// What they may come to: 128 kB for a file, and 1.5 MiB for the longest list.
+const _: () = assert!(FILE <= 131_072 && REDUCED[2].0 <= 1_572_864);
 
 /// The least stack that a thread may have, and a page.
 const LEAST: usize = 16_384;
@@ -97,7 +108,13 @@ fn takes(what: &str, least: usize, most: usize, call: Call) {
 
 /// A passing list of all kinds.
 fn passing(records: usize) -> List {
-    list(&mut Random::new(records as u64), &Profile { settings: WIDE, ..Profile::plain(records) })
+    passing_with(records, 6)
+}
+
+/// The same, with so many pairs in its table.
+fn passing_with(records: usize, pairs: usize) -> List {
+    let profile = Profile { settings: WIDE, pairs, ..Profile::plain(records) };
+    list(&mut Random::new(records as u64), &profile)
 }
 
 /// A list whose last record is refused: by 9 for a register without a static, by 15 for one that was
@@ -141,18 +158,22 @@ fn a_refusal_takes_little() {
 }
 
 #[test]
-fn a_list_takes_the_same_however_long_it_is() {
-    for records in [0, 1, 64, 4_096, 4_097, 65_536] {
-        let what = format!("{records} records");
-        let word = optimize(&what, REDUCED * 7 / 8, REDUCED, &passing(records));
-        assert!(word <= records as u64, "{word:#x}");
+fn a_reduced_list_takes_what_its_class_does() {
+    for (most, lists) in REDUCED {
+        for (records, pairs) in lists {
+            let what = format!("{records} records, {pairs} pairs");
+            let list = passing_with(*records, *pairs);
+            let word = optimize(&what, most * 7 / 8, most, &list);
+            assert!(word <= *records as u64, "{word:#x}");
+        }
     }
 }
 
 #[test]
 fn a_file() {
     let refused = [9, 15, 16].map(|number| (refused(512, number), number));
-    for (list, number) in [(passing(512), 0), (passing(0), 0)].into_iter().chain(refused) {
+    let passing = [passing(0), passing(512), passing_with(512, 512)].map(|list| (list, 0));
+    for (list, number) in passing.into_iter().chain(refused) {
         let file = encode(&list, 1);
         let mut out = vec![0; room(&list)];
         let mut word = 0;
@@ -186,7 +207,10 @@ fn a_survey_takes_little() {
 
 /// With thousands apart, as the documents write it.
 fn written(number: usize) -> String {
-    format!("{},{:03}", number / 1_000, number % 1_000)
+    match number / 1_000 {
+        0 => number.to_string(),
+        thousands => format!("{},{:03}", written(thousands), number % 1_000),
+    }
 }
 
 #[test]
@@ -194,7 +218,8 @@ fn the_documents_state_these_numbers() {
     for document in ["include/rudzaviks.h", "docs/FORMAT.md", "docs/GUARANTEES.md"] {
         let path = format!("{}/../{document}", env!("CARGO_MANIFEST_DIR"));
         let text = fs::read_to_string(path).expect("the document is there");
-        for number in [SURVEY, REFUSED, REFUSED_BY_16, REDUCED, FILE] {
+        let reduced = REDUCED.map(|(most, _)| most);
+        for number in [SURVEY, REFUSED, REFUSED_BY_16, FILE].into_iter().chain(reduced) {
             assert!(text.contains(&written(number)), "{document} does not state {number} bytes");
         }
     }

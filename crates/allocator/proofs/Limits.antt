@@ -1,28 +1,70 @@
--- Question 4's limits, `room_cases`: each slice just long enough, and each short by one word.
+-- Question 4's limits, `room_cases`: each slice just long enough, and each short by one word or entry; and `entry_cases`, lists of
+-- colours and ends as entries.
 -- By computation. That 4 is said at 0, after 1 to 3, is a limit of crate mir.
 use mathlib.Core.Bool.{true, false}
 use mathlib.Core.List.{[], ◌∷◌}
 use mathlib.Core.Path.{◌≡◌, refl}
+use Rattle.mir.specs.Answers.{Passed, Refused}
 use Rattle.mir.specs.Shapes.{row}
 use Rattle.walks.specs.Lent.{lent}
-use Rattle.allocator.specs.Optimize.{room_for, room_in}
+use Rattle.allocator.specs.Optimize.{lent_statics, room_for, room_in, room_in_words, left}
+use Rattle.allocator.specs.Statics.{entry, entries}
 
 -- three records and three pairs, by their numbers; then a record and a pair
 pub record RoomCases : Type 0 where
-  pub enough : room_for 24 6 24 6 6 18 ≡ true
-  pub out : room_for 24 6 23 6 6 18 ≡ false
-  pub colours : room_for 24 6 24 5 6 18 ≡ false
-  pub ends : room_for 24 6 24 6 5 18 ≡ false
-  pub set : room_for 24 6 24 6 6 17 ≡ false
-  pub nothing : room_for 0 0 0 0 0 0 ≡ true
+  pub enough : room_for 24 6 24 6 18 ≡ true
+  pub out : room_for 24 6 23 6 18 ≡ false
+  pub statics : room_for 24 6 24 5 18 ≡ false
+  pub set : room_for 24 6 24 6 17 ≡ false
+  pub nothing : room_for 0 0 0 0 0 ≡ true
   pub all_in :
-      room_in (row 0 0 0 0 0 0 0 0) (1 ∷ 2 ∷ []) (lent (row 1 2 3 4 5 6 7 8) (1 ∷ 2 ∷ []) (3 ∷ 4 ∷ []) (1 ∷ 2 ∷ 3 ∷ 4 ∷ 5 ∷ 6 ∷ []))
+      room_in (row 0 0 0 0 0 0 0 0) (1 ∷ 2 ∷ [])
+      (lent_statics (row 1 2 3 4 5 6 7 8) (entry 1 2 ∷ entry 3 4 ∷ []) (1 ∷ 2 ∷ 3 ∷ 4 ∷ 5 ∷ 6 ∷ []))
       ≡ true
+  pub one_static :
+      room_in (row 0 0 0 0 0 0 0 0) (1 ∷ 2 ∷ []) (lent_statics (row 1 2 3 4 5 6 7 8) (entry 1 2 ∷ []) (1 ∷ 2 ∷ 3 ∷ 4 ∷ 5 ∷ 6 ∷ []))
+      ≡ false
   pub short_set :
-      room_in (row 0 0 0 0 0 0 0 0) (1 ∷ 2 ∷ []) (lent (row 1 2 3 4 5 6 7 8) (1 ∷ 2 ∷ []) (3 ∷ 4 ∷ []) (1 ∷ 2 ∷ 3 ∷ 4 ∷ 5 ∷ []))
+      room_in (row 0 0 0 0 0 0 0 0) (1 ∷ 2 ∷ [])
+      (lent_statics (row 1 2 3 4 5 6 7 8) (entry 1 2 ∷ entry 3 4 ∷ []) (1 ∷ 2 ∷ 3 ∷ 4 ∷ 5 ∷ []))
+      ≡ false
+  pub all_words :
+      room_in_words (row 0 0 0 0 0 0 0 0) (1 ∷ 2 ∷ [])
+      (lent (row 1 2 3 4 5 6 7 8) (1 ∷ 2 ∷ []) (3 ∷ 4 ∷ []) (1 ∷ 2 ∷ 3 ∷ 4 ∷ 5 ∷ 6 ∷ []))
+      ≡ true
+  pub one_colour :
+      room_in_words (row 0 0 0 0 0 0 0 0) (1 ∷ 2 ∷ [])
+      (lent (row 1 2 3 4 5 6 7 8) (1 ∷ []) (3 ∷ 4 ∷ 5 ∷ []) (1 ∷ 2 ∷ 3 ∷ 4 ∷ 5 ∷ 6 ∷ []))
+      ≡ false
+  pub one_end :
+      room_in_words (row 0 0 0 0 0 0 0 0) (1 ∷ 2 ∷ [])
+      (lent (row 1 2 3 4 5 6 7 8) (1 ∷ 2 ∷ 3 ∷ []) (3 ∷ []) (1 ∷ 2 ∷ 3 ∷ 4 ∷ 5 ∷ 6 ∷ []))
       ≡ false
 
 pub room_cases : RoomCases
-unfolding room_for room_in
+unfolding room_for room_in room_in_words
 room_cases =
-    record { enough = refl; out = refl; colours = refl; ends = refl; set = refl; nothing = refl; all_in = refl; short_set = refl }
+    record {
+      enough = refl;
+      out = refl;
+      statics = refl;
+      set = refl;
+      nothing = refl;
+      all_in = refl;
+      one_static = refl;
+      short_set = refl;
+      all_words = refl;
+      one_colour = refl;
+      one_end = refl;
+    }
+
+-- a colour stands before its end, and a slice of entries keeps what is past them
+pub record EntryCases : Type 0 where
+  pub none : entries [] [] ≡ []
+  pub two : entries (7 ∷ 8 ∷ []) (1 ∷ 2 ∷ []) ≡ entry 7 1 ∷ entry 8 2 ∷ []
+  pub rest : left Passed (entry 7 1 ∷ []) (entry 9 9 ∷ entry 3 4 ∷ []) ≡ entry 7 1 ∷ entry 3 4 ∷ []
+  pub refused : left (Refused 4 0) (entry 7 1 ∷ []) (entry 9 9 ∷ entry 3 4 ∷ []) ≡ entry 9 9 ∷ entry 3 4 ∷ []
+
+pub entry_cases : EntryCases
+unfolding entries
+entry_cases = record { none = refl; two = refl; rest = refl; refused = refl }

@@ -1,9 +1,9 @@
 -- Public, document 01, sections 4, 5, 7 and 10: what `optimize` answers, and what the lent slices then hold.
-use Rattle.std.specs.Prelude.{ℕ, ◌+◌, ◌*◌, ◌/◌, Bool, ◌&&◌, List, Result, Ok, Err, ◌≡◌, leb, length, get_or, take}
+use Rattle.std.specs.Prelude.{ℕ, ◌+◌, ◌*◌, ◌/◌, Bool, ◌&&◌, List, ◌++◌, Result, Ok, Err, ◌≡◌, leb, min, length, get_or, take, drop}
 use Rattle.mir.specs.declared.config.Settings.{Settings}
 use Rattle.mir.specs.Answers.{Verdict}
 use Rattle.mir.specs.Answers as verdict
-use Rattle.mir.specs.Answers.{Report, answered, refused, number_of, unless, over}
+use Rattle.mir.specs.Answers.{Report, answered, refused, number_of, unless}
 use Rattle.mir.specs.Questions.{refusal}
 use Rattle.passes.specs.Contract.{reduced, colours_of, members_of, words_of, counts_of}
 use Rattle.passes.specs.Create.{ends_of}
@@ -11,21 +11,37 @@ use Rattle.passes.specs.Machine.{Preserves}
 use Rattle.walks.specs.declared.Counts.{Counts}
 use Rattle.mir.specs.declared.refusal.Refusal.{Refusal}
 use Rattle.walks.specs.Lent.{Lent, values_in}
+use Rattle.allocator.specs.declared.statics.Static.{Static}
+use Rattle.allocator.specs.Statics.{statics_of}
 
--- section 7, question 4, by the numbers of words: has the output at least the list's length, the statics (colours and
--- ends) at least two entries per record, the set at least 4 words per record plus the table's length?
-unfoldable pub room_for : (list table out colours ends set : ℕ) → Bool
-room_for list table out colours ends set =
-    leb list out && (leb (list / 8 * 2) colours && (leb (list / 8 * 2) ends && leb (list / 8 * 4 + table) set))
+-- the slices that `optimize` is lent: the output, an entry for each static, and the read set
+pub record LentStatics : Type 0 where
+  pub out : List ℕ
+  pub statics : List Static
+  pub set : List ℕ
 
--- and of the slices themselves
-unfoldable pub room_in : List ℕ → List ℕ → Lent → Bool
-room_in list table held =
-    room_for (length list) (length table) (length held.out) (length held.colours) (length held.ends) (length held.set)
+abbrev pub lent_statics : List ℕ → List Static → List ℕ → LentStatics
+lent_statics out statics set = record { out = out; statics = statics; set = set }
+
+-- section 7, question 4, by the numbers of words and of entries: has the output at least the list's length, the statics at
+-- least two entries per record, the set at least 4 words per record plus the table's length?
+unfoldable pub room_for : (list table out statics set : ℕ) → Bool
+room_for list table out statics set = leb list out && (leb (list / 8 * 2) statics && leb (list / 8 * 4 + table) set)
+
+-- and of the slices themselves; of two slices of words, the shorter one says how many statics have room
+unfoldable pub room_in : List ℕ → List ℕ → LentStatics → Bool
+room_in list table held = room_for (length list) (length table) (length held.out) (length held.statics) (length held.set)
+
+unfoldable pub room_in_words : List ℕ → List ℕ → Lent → Bool
+room_in_words list table held =
+    room_for (length list) (length table) (length held.out) (min (length held.colours) (length held.ends)) (length held.set)
 
 -- the questions, with these slices
-unfoldable pub verdict_of : Settings → List ℕ → List ℕ → Lent → Verdict
+unfoldable pub verdict_of : Settings → List ℕ → List ℕ → LentStatics → Verdict
 verdict_of s list table held = refusal (room_in list table held) s list table
+
+unfoldable pub verdict_of_words : Settings → List ℕ → List ℕ → Lent → Verdict
+verdict_of_words s list table held = refusal (room_in_words list table held) s list table
 
 -- the answer in document 01's terms: the seven counts, or number and index
 abbrev pub report : Result Counts Refusal → Report
@@ -37,20 +53,29 @@ abbrev pub records_in : Report → ℕ
 records_in (answered values) = get_or values 0 0
 records_in (refused number index) = 0
 
--- a slice starts with the words if the list passes; a refusal changes no lent word
-abbrev pub left : Verdict → List ℕ → List ℕ → List ℕ
-left verdict.Passed words held = over words held
-left (verdict.Refused number index) words held = held
+-- a slice starts with the words or entries if the list passes; a refusal changes none
+abbrev pub left : {Item : Type 0} → Verdict → List Item → List Item → List Item
+left verdict.Passed items held = items ++ drop (length items) held
+left (verdict.Refused number index) items held = held
+
+-- section 5 and request 10: the runs of an accepted list, and those of the first records that the output now holds, as many as
+-- the answer counts
+abbrev pub KeepsRuns : Verdict → Settings → List ℕ → Result Counts Refusal → List ℕ → Type 0
+KeepsRuns v s list given out = v ≡ verdict.Passed → Preserves s list (take (records_in (report given) * 8) out)
 
 -- the promise of `optimize`, with what the lent slices held and hold
-pub record Optimized (s : Settings) (list table : List ℕ) (held now : Lent) (given : Result Counts Refusal) : Type 0 where
+pub record Optimized (s : Settings) (list table : List ℕ) (held now : LentStatics) (given : Result Counts Refusal) : Type 0 where
   pub answer : report given ≡ unless (verdict_of s list table held) (counts_of s list table)
   pub out : now.out ≡ left (verdict_of s list table held) (reduced s list table) held.out
-  pub colours : now.colours ≡ left (verdict_of s list table held) (colours_of s list table) held.colours
-  pub ends : now.ends ≡ left (verdict_of s list table held) (ends_of list) held.ends
+  pub statics : now.statics ≡ left (verdict_of s list table held) (statics_of s list table) held.statics
   pub set : now.set ≡ left (verdict_of s list table held) (words_of (members_of s list table)) held.set
-  -- section 5 and request 10: the runs of an accepted list, and those of the first records that the output now holds, as many as
-  -- the answer counts
-  pub preserved :
-      verdict_of s list table held ≡ verdict.Passed
-      → Preserves s list (take (records_in (report given) * 8) now.out)
+  pub preserved : KeepsRuns (verdict_of s list table held) s list given now.out
+
+-- the promise of `optimize_words`
+pub record OptimizedWords (s : Settings) (list table : List ℕ) (held now : Lent) (given : Result Counts Refusal) : Type 0 where
+  pub answer : report given ≡ unless (verdict_of_words s list table held) (counts_of s list table)
+  pub out : now.out ≡ left (verdict_of_words s list table held) (reduced s list table) held.out
+  pub colours : now.colours ≡ left (verdict_of_words s list table held) (colours_of s list table) held.colours
+  pub ends : now.ends ≡ left (verdict_of_words s list table held) (ends_of list) held.ends
+  pub set : now.set ≡ left (verdict_of_words s list table held) (words_of (members_of s list table)) held.set
+  pub preserved : KeepsRuns (verdict_of_words s list table held) s list given now.out

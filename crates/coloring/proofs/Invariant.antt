@@ -31,36 +31,10 @@ use Rattle.mir.proofs.Over.{over_length}
 use Rattle.sets.specs.declared.ReadSet.{ReadSet}
 use Rattle.sets.specs.Members.{members_in, SetHolds}
 use Rattle.sets.proofs.Pairs.{holds_length, holds_more, joined_grows}
-use Rattle.coloring.proofs.Record.{slices_at, sources_fit, sources_due, record_ready, record_step_lem, found_after}
+use Rattle.coloring.specs.Walk.{State, state, Holds, Called, Colouring, slices_at}
+use Rattle.coloring.proofs.Record.{sources_fit, sources_due, record_ready, record_step_lem, found_after}
 use Rattle.coloring.proofs.Sources.{space_below, coloured_in}
 use Rattle.lives.proofs.Registers.{passing_list, few_words, few_statics}
-
--- what is lent to the walk's steps
-pub record State : Type 0 where
-  pub allocs : Allocs
-  pub colours : List ℕ
-  pub ends : List ℕ
-
-abbrev pub state : Allocs → List ℕ → List ℕ → State
-state allocs colours ends = record { allocs = allocs; colours = colours; ends = ends }
-
--- it is the slices before record i; the masks tell of the colours at instruction j
-abbrev pub Holds : Settings → List ℕ → List ℕ → List ℕ → List ℕ → ℕ → ℕ → State → Type 0
-Holds s list table C0 E0 i j st = SlicesAre s.count_regs j (slices_at s list table C0 E0 i) st.allocs st.colours st.ends
-
--- what the walk is called with: a list that passes, and slices that have room
-pub record Called (s : Settings) (list table C0 E0 : List ℕ) (S0 : ReadSet) : Type 0 where
-  pub passing : Passing s list table
-  pub colours_room : records list * 2 ≤ length C0
-  pub ends_room : records list * 2 ≤ length E0
-  pub words_room : records list * 4 + length table ≤ length S0.words.now
-
--- between two records the masks tell of the colours at the one before
-pub record Colouring (s : Settings) (list table C0 E0 : List ℕ) (S0 : ReadSet) (i : ℕ) (st : State) (set : ReadSet) (r : Renaming) : Type 0 where
-  pub called : Called s list table C0 E0 S0
-  pub walked : Walked list i r
-  pub holds : Holds s list table C0 E0 i (i - 1) st
-  pub set_holds : SetHolds set (color_to (setup s list table) i).members S0
 
 module _ {s : Settings} {list table C0 E0 : List ℕ} {S0 : ReadSet} where
   module _ (g : Called s list table C0 E0 S0) where

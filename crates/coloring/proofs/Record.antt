@@ -27,6 +27,7 @@ use Rattle.theorems.proofs.Due.{due}
 use Rattle.theorems.proofs.NeverEmpty.{source_below, ready_to, choices_of, wanted_words}
 use Rattle.theorems.proofs.Pool.{words}
 use Rattle.mir.specs.Answers.{over}
+use Rattle.coloring.specs.Walk.{slices_at}
 use Rattle.coloring.specs.Coloring.{Slices, slices, dest_steps, Ready, Coloured, source_words, wanted_by, record_step, was_found, founds_for, founds_to, marked}
 use Rattle.mir.proofs.Over.{over_get}
 use Rattle.coloring.proofs.Dests.{slices_same, marked_length, marked_at, mark_shows, dests_at_lem, ready_at}
@@ -67,11 +68,6 @@ map_below f n (w ∷ ws) k h zero z l = go (is_gen w) refl
     go : (b : Bool) → is_gen w ≡ b → f w < n
     go true e = h w (inl refl) e
     go false e = absurd (omega (arith, k w e, ltb-false w 256 e, l))
-
--- the lent slices before record i
-abbrev pub slices_at : Settings → List ℕ → List ℕ → List ℕ → List ℕ → ℕ → Slices
-slices_at s list table C0 E0 i =
-    slices (color_to (setup s list table) i).allocs (over (color_to (setup s list table) i).colours C0) (over (marked (founds_to (setup s list table) i) (ends_of list)) E0)
 
 module _ (s : Settings) (list table : List ℕ) (passes : ListPasses s list table) (C0 E0 : List ℕ) (wide : length (ends_of list) ≤ length C0) where
   u : Setup

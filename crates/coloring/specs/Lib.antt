@@ -1,2 +1,3 @@
 -- Inner: no promise is made in these words.
 pub mod Coloring
+pub mod Walk

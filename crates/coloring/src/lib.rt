@@ -1,14 +1,15 @@
 // The third walk (document 01, section 3): each static's colour, and the read set.
 #![tactic(auto)]
 
-ghost use Rattle.std.specs.Prelude.{ℕ, ◌+◌, ◌*◌, ◌<◌, ◌≤◌, true, cond, ◌&&◌, List, [], ◌∷◌, leb, ◌≡◌, length, get_or};
+ghost use Rattle.std.specs.Prelude.{ℕ, ◌+◌, ◌*◌, ◌/◌, ◌<◌, ◌≤◌, true, cond, ◌&&◌, List, [], ◌∷◌, leb, ◌≡◌, length, get_or};
 ghost use Rattle.mir.specs.Answers.{over};
 ghost use Rattle.colours.specs.Colours.{nothing, held_in, allocs_in, Stands, sources_used};
 ghost use Rattle.colours.specs.Masks.{Masked, Expired};
 ghost use Rattle.sets.specs.Members.{members_in, SetHolds};
+ghost use Rattle.coloring.specs.Walk.{MayTurn, Turned, state};
 ghost use Rattle.coloring.specs.Coloring.{slices_in, SlicesAre, dest_step, dest_steps, ReadyFor, Ready, Coloured, source_words, wanted_by, record_step, was_found, reads_of, marked_ends};
 ghost use Rattle.mir.specs.Questions.{fields_fit, partner_fits};
-ghost use Rattle.mir.specs.Records.{is_gen, max_regs, records};
+ghost use Rattle.mir.specs.Records.{is_gen, max_regs, records, record_at, word_at};
 ghost use Rattle.mir.specs.Shapes.{any, dests};
 ghost use Rattle.mir.specs.declared.shape.Action.TheVariants as act;
 ghost use Rattle.passes.specs.declared.alloc.Alloc.{Alloc};
@@ -33,6 +34,7 @@ use sets::ReadSet;
 pub const FOUND: u32 = 65_536;
 
 // A register word in colours: the colour of the static that a Gen source holds, or 0, as the definitions have it, where it holds none.
+#[inline(always)]
 pub fn deallocate(renaming: &Renaming, w: u32, colours: &[u32]) -> u32
     requires { renaming.now.statics ≤ length colours.now }
     ensures { result ≡ source_word renaming.now.regs colours.now w }
@@ -47,28 +49,40 @@ pub fn deallocate(renaming: &Renaming, w: u32, colours: &[u32]) -> u32
 }
 
 // Source `j` of a record in colours, or 0 where it has none, as the definitions have it: nothing is made of it then.
-fn source_at(renaming: &Renaming, rec: &Record, j: usize, colours: &[u32]) -> u32
-    requires { renaming.now.statics ≤ length colours.now }
+#[inline(always)]
+fn source_at(renaming: &Renaming, kind: u32, rec: &Record, j: usize, colours: &[u32]) -> u32
+    requires kind_is { kind ≡ word_at rec.now 0 }
+    requires known_in { renaming.now.statics ≤ length colours.now }
     ensures { result ≡ get_or (source_words renaming.now.regs colours.now rec.now) j 0 }
 {
-    match sources_of(rec).get(j) {
+    match sources_of(kind, rec).get(j) {
         Some(&w) => deallocate(renaming, w, colours),
         None => 0,
     }
 }
 
 // The colours of a record's sources become free at instruction `i`, if their lives end there.
-fn expire_sources(allocs: &mut Allocs, renaming: &Renaming, rec: &Record, i: u32, colours: &[u32])
+#[inline(always)]
+fn expire_sources(
+    allocs: &mut Allocs,
+    renaming: &Renaming,
+    kind: u32,
+    rec: &Record,
+    i: u32,
+    colours: &[u32],
+)
+    requires kind_is { kind ≡ word_at rec.now 0 }
     requires known_in { renaming.now.statics ≤ length colours.now }
     requires coloured { Coloured max_regs (source_words renaming.now.regs colours.now rec.now) }
     ensures { Expired allocs.old (source_words renaming.now.regs colours.now rec.now) i allocs.new }
 {
-    for &w in sources_of(rec) {
+    for &w in sources_of(kind, rec) {
         allocs.expire(deallocate(renaming, w, colours), i);
     }
 }
 
 // The word of the location that a coloured word's colour holds.
+#[inline(always)]
 fn held_by(allocs: &Allocs, w: u32) -> u64
     requires { w < 256 → w < max_regs }
     ensures { result ≡ cond (is_gen w) (get_or allocs.now.locs w 0) nothing }
@@ -80,6 +94,7 @@ fn held_by(allocs: &Allocs, w: u32) -> u64
 }
 
 // What x is wanted with, as a word, which is compared with the colours' (`NOTHING`); the first source's colour is `x`.
+#[inline(always)]
 fn want_x(action: Action, l: Loc, x: u32, allocs: &Allocs) -> u64
     requires space_lt_any { l.space < any }
     requires x_lt_max_regs { 0 < sources_used action → x < 256 → x < max_regs }
@@ -93,6 +108,7 @@ fn want_x(action: Action, l: Loc, x: u32, allocs: &Allocs) -> u64
 }
 
 // What y is wanted with.
+#[inline(always)]
 fn want_y(action: Action, l: Loc) -> u64
     requires space_lt_any { l.space < any }
     requires index_lt_any { action ≡ act.LoadComplex → l.index < any }
@@ -105,10 +121,12 @@ fn want_y(action: Action, l: Loc) -> u64
 }
 
 // A record's location, or its first two words where it has none.
-pub fn loc_of(rec: &Record) -> Loc
+#[inline(always)]
+pub fn loc_of(kind: u32, rec: &Record) -> Loc
+    requires { kind ≡ word_at rec.now 0 }
     ensures { result ≡ loc_of rec.now }
 {
-    let s = shape_of(rec[0]);
+    let s = shape_of(kind);
     let p = s.loc;
     Loc {
         space: rec[p],
@@ -151,8 +169,10 @@ fn color_dest(
 }
 
 // The destinations of a record, x before y, which has the static after x's (mir/rename.rt has why it is counted here).
+#[inline(always)]
 fn color_dests(
     allocs: &mut Allocs,
+    kind: u32,
     rec: &Record,
     hx: u64,
     hy: u64,
@@ -161,13 +181,14 @@ fn color_dests(
     colours: &mut [u32],
     ends: &mut [u32],
 )
+    requires kind_is { kind ≡ word_at rec.now 0 }
     requires masked { Masked allocs.old.count i allocs.old.masks (allocs_in allocs.old.lives allocs.old.locs) }
     requires colours_room { next + 2 ≤ length colours.old }
     requires ends_room { next + 2 ≤ length ends.old }
     requires ready { Ready allocs.old.count i next (wanted (dests rec.now) (held_in hx) (held_in hy)) (slices_in allocs.old colours.old ends.old) }
     ensures { SlicesAre allocs.old.count i (dest_steps allocs.old.count i next (wanted (dests rec.now) (held_in hx) (held_in hy)) (slices_in allocs.old colours.old ends.old)) allocs.new colours.new ends.new }
 {
-    match dests_of(rec) {
+    match dests_of(kind, rec) {
         Dests::Nothing => {}
         Dests::One(x) => color_dest(allocs, x, hx, i, next, colours, ends),
         Dests::Two(x, y) => {
@@ -178,15 +199,18 @@ fn color_dests(
     }
 }
 
-// One record.
-fn color_record(
+// A record whose action looks at the colours' locations, or changes them.
+#[inline(always)]
+fn color_acting(
     allocs: &mut Allocs,
+    kind: u32,
     rec: &Record,
     renaming: &Renaming,
     i: u32,
     colours: &mut [u32],
     ends: &mut [u32],
 )
+    requires kind_is { kind ≡ word_at rec.now 0 }
     requires partner_fits { partner_fits rec.now ≡ true }
     requires space_bound { (loc_of rec.now).space < any }
     requires coloured { Coloured allocs.old.count (source_words renaming.now.regs colours.old rec.now) }
@@ -196,24 +220,74 @@ fn color_record(
     requires ready { Ready allocs.old.count i renaming.now.statics (wanted_by renaming.now.regs rec.now (slices_in allocs.old colours.old ends.old)) (slices_in allocs.old colours.old ends.old) }
     ensures { SlicesAre allocs.old.count i (record_step allocs.old.count i renaming.now.statics renaming.now.regs rec.now (slices_in allocs.old colours.old ends.old)) allocs.new colours.new ends.new }
 {
-    let s = shape_of(rec[0]);
+    let s = shape_of(kind);
     let action = s.action;
-    let l = loc_of(rec);
-    let x = source_at(renaming, rec, 0, colours);
-    let y = source_at(renaming, rec, 1, colours);
+    let l = loc_of(kind, rec);
+    let x = source_at(renaming, kind, rec, 0, colours);
+    let y = source_at(renaming, kind, rec, 1, colours);
     let hx = want_x(action, l, x, allocs);
     let hy = want_y(action, l);
-    color_dests(allocs, rec, hx, hy, i, renaming.statics, colours, ends);
+    color_dests(
+        allocs,
+        kind,
+        rec,
+        hx,
+        hy,
+        i,
+        renaming.statics,
+        colours,
+        ends,
+    );
     allocs.update(action, l, x, y);
+}
+
+// One record. Most want no location, and change the colours by their destinations alone.
+#[inline(always)]
+fn color_record(
+    allocs: &mut Allocs,
+    kind: u32,
+    rec: &Record,
+    renaming: &Renaming,
+    i: u32,
+    colours: &mut [u32],
+    ends: &mut [u32],
+)
+    requires kind_is { kind ≡ word_at rec.now 0 }
+    requires partner_fits { partner_fits rec.now ≡ true }
+    requires space_bound { (loc_of rec.now).space < any }
+    requires coloured { Coloured allocs.old.count (source_words renaming.now.regs colours.old rec.now) }
+    requires masked { Masked allocs.old.count i allocs.old.masks (allocs_in allocs.old.lives allocs.old.locs) }
+    requires colours_room { renaming.now.statics + 2 ≤ length colours.old }
+    requires ends_room { renaming.now.statics + 2 ≤ length ends.old }
+    requires ready { Ready allocs.old.count i renaming.now.statics (wanted_by renaming.now.regs rec.now (slices_in allocs.old colours.old ends.old)) (slices_in allocs.old colours.old ends.old) }
+    ensures { SlicesAre allocs.old.count i (record_step allocs.old.count i renaming.now.statics renaming.now.regs rec.now (slices_in allocs.old colours.old ends.old)) allocs.new colours.new ends.new }
+{
+    let s = shape_of(kind);
+    match s.action {
+        Action::Other | Action::LoadArgs => color_dests(
+            allocs,
+            kind,
+            rec,
+            NOTHING,
+            NOTHING,
+            i,
+            renaming.statics,
+            colours,
+            ends,
+        ),
+        _ => color_acting(allocs, kind, rec, renaming, i, colours, ends),
+    }
 }
 
 // Whether every destination was found; `next` is the record's first static, and y's comes after it, since x's counts only if it is
 // marked. It counts at a load.
-pub fn was_found(rec: &Record, next: usize, ends: &[u32]) -> bool
-    requires { next + 2 ≤ length ends.now }
+#[inline(always)]
+pub fn was_found(kind: u32, rec: &Record, next: usize, ends: &[u32]) -> bool
+    requires kind_is { kind ≡ word_at rec.now 0 }
+    requires next_fits { next + 2 ≤ length ends.now }
     ensures { result ≡ was_found (dests rec.now) next ends.now }
 {
-    match dests_of(rec) {
+    match dests_of(kind, rec) {
         Dests::Nothing => true,
         Dests::One(x) => is_marked(x, next, ends),
         Dests::Two(x, y) => is_marked(x, next, ends) && is_marked(y, next + 1, ends),
@@ -221,6 +295,7 @@ pub fn was_found(rec: &Record, next: usize, ends: &[u32]) -> bool
 }
 
 // Whether the static of a Gen register is marked as found.
+#[inline(always)]
 fn is_marked(w: u32, next: usize, ends: &[u32]) -> bool
     requires { next < length ends.now }
     ensures { result ≡ (is_gen w && leb 65536 (get_or ends.now next 0)) }
@@ -239,33 +314,107 @@ fn insert_both(set: &mut ReadSet<'_>, l: Loc)
     set.insert(partner(l));
 }
 
-// What a record reads joins the set.
+// What a record reads joins the set; `next` is its first static. What was found is asked at a load alone.
 #[tactic(auto, using(sets::proofs::Pairs::set_rules), unfolding(passes::specs::Color::joined))]
-fn read_record(rec: &Record, found: bool, table: &[u32], set: &mut ReadSet<'_>)
+#[inline(always)]
+fn read_record(
+    kind: u32,
+    rec: &Record,
+    next: usize,
+    ends: &[u32],
+    table: &[u32],
+    set: &mut ReadSet<'_>,
+)
+    requires kind_is { kind ≡ word_at rec.now 0 }
     requires fields_fit { fields_fit table.now rec.now ≡ true }
     requires partner_fits { partner_fits rec.now ≡ true }
-    requires found_in_bounds { length (joined (members_in set.old) (reads_of table.now rec.now found)) * 2 ≤ length set.old.words.now }
-    ensures { SetHolds set.new (joined (members_in set.old) (reads_of table.now rec.now found)) set.old }
+    requires next_fits { next + 2 ≤ length ends.now }
+    requires found_in_bounds { length (joined (members_in set.old) (reads_of table.now rec.now (was_found (dests rec.now) next ends.now))) * 2 ≤ length set.old.words.now }
+    ensures { SetHolds set.new (joined (members_in set.old) (reads_of table.now rec.now (was_found (dests rec.now) next ends.now))) set.old }
 {
-    let s = shape_of(rec[0]);
+    let s = shape_of(kind);
     match s.action {
         Action::Load => {
-            if !found {
-                set.insert(loc_of(rec));
+            if !was_found(kind, rec, next, ends) {
+                set.insert(loc_of(kind, rec));
             }
         }
         Action::LoadComplex => {
-            if !found {
-                insert_both(set, loc_of(rec));
+            if !was_found(kind, rec, next, ends) {
+                insert_both(set, loc_of(kind, rec));
             }
         }
         Action::LoadArgs => set.extend(table, rec[1], rec[2]),
         Action::Other => {
             if s.loc != 0 {
-                set.insert(loc_of(rec));
+                set.insert(loc_of(kind, rec));
             }
         }
         Action::Mov | Action::Save | Action::SaveComplex | Action::Clear => {}
+    }
+}
+
+// One turn of the walk: the record, and the registers after it.
+#[inline(always)]
+fn color_turn(
+    kind: u32,
+    rec: &Record,
+    table: &[u32],
+    i: u32,
+    renaming: &mut Renaming,
+    allocs: &mut Allocs,
+    colours: &mut [u32],
+    ends: &mut [u32],
+    set: &mut ReadSet<'_>,
+)
+    requires kind_is { kind ≡ word_at rec.now 0 }
+    requires may_turn { MayTurn table.now i rec.now (state allocs.old colours.old ends.old) set.old renaming.old }
+    ensures { Turned table.now i rec.now (state allocs.old colours.old ends.old) set.old renaming.old (state allocs.new colours.new ends.new) set.new renaming.new }
+{
+    expire_sources(allocs, renaming, kind, rec, i, colours);
+    color_record(allocs, kind, rec, renaming, i, colours, ends);
+    read_record(kind, rec, renaming.statics, ends, table, set);
+    renaming.pass(kind, rec);
+}
+
+// The turn of the record's kind: in each arm the kind is a number that is written down, and so are the places of its words, which
+// makes a body without jumps of each.
+fn color_by_kind(
+    rec: &Record,
+    table: &[u32],
+    i: u32,
+    renaming: &mut Renaming,
+    allocs: &mut Allocs,
+    colours: &mut [u32],
+    ends: &mut [u32],
+    set: &mut ReadSet<'_>,
+)
+    requires { MayTurn table.now i rec.now (state allocs.old colours.old ends.old) set.old renaming.old }
+    ensures { Turned table.now i rec.now (state allocs.old colours.old ends.old) set.old renaming.old (state allocs.new colours.new ends.new) set.new renaming.new }
+{
+    match rec[0] {
+        0 => color_turn(0, rec, table, i, renaming, allocs, colours, ends, set),
+        1 => color_turn(1, rec, table, i, renaming, allocs, colours, ends, set),
+        2 => color_turn(2, rec, table, i, renaming, allocs, colours, ends, set),
+        3 => color_turn(3, rec, table, i, renaming, allocs, colours, ends, set),
+        4 => color_turn(4, rec, table, i, renaming, allocs, colours, ends, set),
+        5 => color_turn(5, rec, table, i, renaming, allocs, colours, ends, set),
+        6 => color_turn(6, rec, table, i, renaming, allocs, colours, ends, set),
+        7 => color_turn(7, rec, table, i, renaming, allocs, colours, ends, set),
+        8 => color_turn(8, rec, table, i, renaming, allocs, colours, ends, set),
+        9 => color_turn(9, rec, table, i, renaming, allocs, colours, ends, set),
+        10 => color_turn(10, rec, table, i, renaming, allocs, colours, ends, set),
+        11 => color_turn(11, rec, table, i, renaming, allocs, colours, ends, set),
+        12 => color_turn(12, rec, table, i, renaming, allocs, colours, ends, set),
+        13 => color_turn(13, rec, table, i, renaming, allocs, colours, ends, set),
+        14 => color_turn(14, rec, table, i, renaming, allocs, colours, ends, set),
+        15 => color_turn(15, rec, table, i, renaming, allocs, colours, ends, set),
+        16 => color_turn(16, rec, table, i, renaming, allocs, colours, ends, set),
+        17 => color_turn(17, rec, table, i, renaming, allocs, colours, ends, set),
+        18 => color_turn(18, rec, table, i, renaming, allocs, colours, ends, set),
+        19 => color_turn(19, rec, table, i, renaming, allocs, colours, ends, set),
+        20 => color_turn(20, rec, table, i, renaming, allocs, colours, ends, set),
+        kind => color_turn(kind, rec, table, i, renaming, allocs, colours, ends, set),
     }
 }
 
@@ -293,11 +442,16 @@ pub fn color(
     let mut allocs = Allocs::new(settings.count_regs as usize);
     for (i, rec) in records_of(list).iter().enumerate() {
         let now = i as u32;
-        expire_sources(&mut allocs, &renaming, rec, now, colours);
-        color_record(&mut allocs, rec, &renaming, now, colours, ends);
-        let found = was_found(rec, renaming.statics, ends);
-        read_record(rec, found, table, set);
-        renaming.pass(rec);
+        color_by_kind(
+            rec,
+            table,
+            now,
+            &mut renaming,
+            &mut allocs,
+            colours,
+            ends,
+            set,
+        );
     }
     renaming.statics
 }

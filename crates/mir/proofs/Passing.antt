@@ -14,14 +14,15 @@ use Rattle.mir.specs.Answers.{Verdict, Passed, Refused}
 use Rattle.mir.specs.Branches.{past_to}
 use Rattle.std.specs.List.{list_all}
 use Rattle.mir.specs.Folds.{all_below, first_no, refused_at, or_else}
-use Rattle.mir.specs.Questions.{few_registers, few_args, well_sized, known_kind, word_fits, words_fit, fields_fit, gen_fits, gens_fit, partner_fits, sources_named, sources_since}
+use Rattle.mir.specs.Questions.{few_registers, few_args, well_sized, known_kind, word_fits, words_fit, fields_fit, gen_fits, gens_fit, partner_fits, named, since, sources_named, sources_since}
 use Rattle.mir.specs.Questions.{shape_no, record_no, record_by, record_refusal, count_refusal, args_refusal, lengths_refusal, lands, branch_by, branch_refusal, sizes_refusal, refusal}
 use Rattle.mir.specs.Records.{is_gen, max_regs, records, record_at}
 use Rattle.mir.specs.Renaming.{regs_to}
-use Rattle.mir.specs.Shapes.{shape_for, registers}
+use Rattle.mir.specs.Shapes.{shape_for, dests, sources, registers}
 use Rattle.mir.proofs.Clash.{clash}
-use Rattle.mir.proofs.Folds.{all_at, both_passed, none_refused, refusal_none}
-use Rattle.mir.proofs.Renaming.{and_both}
+use Rattle.mir.specs.Inner.{source_passes}
+use Rattle.mir.proofs.Folds.{all_append, all_at, both_passed, none_refused, refusal_none}
+use Rattle.mir.proofs.Renaming.{registers_are, and_both}
 
 -- ---- numbered answers
 
@@ -107,6 +108,24 @@ all_weaker p q f [] h = refl
 all_weaker p q f (w ∷ ws) h =
     let b = and_both (p w) (list_all p ws) h in
     rw (f w b.0, all_weaker p q f ws b.1)
+
+-- sources of which each passes what the questions ask of it
+module _ (n : ℕ) (regs : List (Option ℕ)) (past : ℕ) where
+  each_source : (w : ℕ) → source_passes n regs past w ≡ true → (gen_fits n w ≡ true) × (named regs w ≡ true) × (since past regs w ≡ true)
+  each_source w h =
+      let b = and_both (gen_fits n w) (named regs w && since past regs w) h in
+      let more = and_both (named regs w) (since past regs w) b.1 in
+      (b.0, more.0, more.1)
+
+  -- the parts that are asked at once are the questions
+  pub record_passes_at_once : (table rec : List ℕ) → known_kind rec ≡ true → fields_fit table rec ≡ true → partner_fits rec ≡ true
+      → list_all (gen_fits n) (dests rec) ≡ true → list_all (source_passes n regs past) (sources rec) ≡ true → record_no table n regs past rec ≡ 0
+  unfolding record_no gens_fit sources_named sources_since
+  record_passes_at_once table rec kind fields partner d s =
+      let fit = all_weaker (source_passes n regs past) (gen_fits n) (λ w h. (each_source w h).0) (sources rec) s in
+      let nam = all_weaker (source_passes n regs past) (named regs) (λ w h. (each_source w h).1) (sources rec) s in
+      let sin = all_weaker (source_passes n regs past) (since past regs) (λ w h. (each_source w h).2) (sources rec) s in
+      rw (kind, fields, partner, registers_are, all_append, d, fit, nam, sin) refl
 
 gen_fits_more : (n m w : ℕ) → n ≤ m → gen_fits n w ≡ true → gen_fits m w ≡ true
 gen_fits_more n m w l h = go (is_gen w) h

@@ -19,7 +19,7 @@ use Rattle.std.specs.List.{list_all}
 use Rattle.mir.specs.Questions.{gen_fits, gens_fit}
 use Rattle.mir.specs.Records.{is_gen, record_at, word_at, max_regs}
 use Rattle.mir.specs.Renaming.{fresh, one, produce, gens, produced, renamed, statics_to, regs_to}
-use Rattle.mir.specs.Shapes.{shape_for, call, label, dests, sources, registers}
+use Rattle.mir.specs.Shapes.{shape_of, shape_for, call, label, dests, sources, registers}
 use Rattle.mir.specs.Inner.{Known, KnownIn}
 use Rattle.mir.specs.declared.rename.Renaming.{Renaming}
 use Rattle.mir.proofs.Clash.{clash, same_or}
@@ -206,3 +206,9 @@ walked_next {list} {i} w e r g =
       regs_are = rw (add-one i, ← w.regs_are, ← w.statics_are, ← e) r;
       statics_are = rw (add-one i, ← e, ← w.statics_are) g;
     }
+
+-- a record that forgets writes no register
+pub none_forgets : (rec : List ℕ) → (word_at rec 0 ≡ call) ⊎ (word_at rec 0 ≡ label) → gens (dests rec) ≡ 0
+unfolding gens dests shape_of
+none_forgets rec (inl e) = rw e refl
+none_forgets rec (inr e) = rw e refl

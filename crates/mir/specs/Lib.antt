@@ -8,3 +8,4 @@ pub mod Branches
 pub mod Questions
 pub mod Answers
 pub mod Inner
+pub mod Asked

@@ -6,14 +6,17 @@ ghost use Rattle.std.specs.List.{list_all};
 ghost use Rattle.mir.specs.Folds.{first_no};
 ghost use Rattle.mir.specs.Questions.{count_refusal, lengths_refusal, well_sized, words_fit, pairs_fit, fields_fit, gen_fits, gens_fit, partner_fits, named, sources_named, since, sources_since, shape_no, record_no, record_refusal, sizes_refusal};
 ghost use Rattle.mir.specs.Records.{word_at, max_regs};
-ghost use Rattle.mir.specs.Shapes.{branch_if};
+ghost use Rattle.mir.specs.Inner.{source_passes};
+ghost use Rattle.mir.specs.Asked.{Asked};
+ghost use Rattle.mir.specs.Shapes.{any, branch_if, dests};
 
 use crate::config::MAX_REGS;
 use crate::record::{Record, records_of};
 use crate::refusal::{Question, Refusal};
 use crate::rename::{Renaming, static_of};
 use crate::shape::{
-    BRANCH_IF, LOAD_ARGS, LOAD_COMPLEX, SAVE_COMPLEX, registers_of, shape_of, sources_of,
+    BRANCH_IF, Dests, LOAD_ARGS, LOAD_COMPLEX, SAVE_COMPLEX, dests_of, registers_of, shape_of,
+    sources_of,
 };
 
 // Question 3, of the lengths.
@@ -24,15 +27,16 @@ pub fn well_sized(list: usize, table: usize) -> bool
 }
 
 // Question 6: no word is above the largest that its field may be.
+#[inline(always)]
 fn words_fit(rec: &Record, most: [u32; 8]) -> bool
     ensures { result ≡ words_fit rec.now most }
 {
+    let mut fit = true;
+    // Without a return from the loop the eight words are compared at once.
     for p in 0..8 {
-        if most[p] < rec[p] {
-            return false;
-        }
+        fit &= rec[p] <= most[p];
     }
-    true
+    fit
 }
 
 // Question 6: the pairs that a LoadArgs names are in the table, and each is of a space.
@@ -53,15 +57,17 @@ fn pairs_fit(table: &[u32], first: u32, count: u32) -> bool
 }
 
 // Question 6, whole.
-fn fields_fit(rec: &Record, table: &[u32]) -> bool
+#[inline(always)]
+fn fields_fit(kind: u32, rec: &Record, table: &[u32]) -> bool
+    requires { kind ≡ word_at rec.now 0 }
     ensures { result ≡ fields_fit table.now rec.now }
 {
-    let s = shape_of(rec[0]);
+    let s = shape_of(kind);
     let most = s.most;
     if !words_fit(rec, most) {
         return false;
     }
-    if rec[0] == LOAD_ARGS {
+    if kind == LOAD_ARGS {
         pairs_fit(table, rec[1], rec[2])
     } else {
         true
@@ -90,10 +96,11 @@ fn gens_fit(rec: &Record, count_regs: u32) -> bool
 }
 
 // Question 8.
-fn partner_fits(rec: &Record) -> bool
+#[inline(always)]
+fn partner_fits(kind: u32, rec: &Record) -> bool
+    requires { kind ≡ word_at rec.now 0 }
     ensures { result ≡ partner_fits rec.now }
 {
-    let kind = rec[0];
     match kind {
         LOAD_COMPLEX | SAVE_COMPLEX => rec[4] < u32::MAX,
         _ => true,
@@ -107,7 +114,7 @@ pub fn check_shape(rec: &Record, table: &[u32], count_regs: u32) -> Result<(), Q
     if 20 < rec[0] {
         return Err(Question::Kind);
     }
-    if !fields_fit(rec, table) {
+    if !fields_fit(rec[0], rec, table) {
         return Err(Question::Fields);
     }
     if !gens_fit(rec, count_regs) {
@@ -160,7 +167,7 @@ fn all_since(regs: &[Option<u32>; MAX_REGS], past: usize, words: &[u32]) -> bool
 fn check_sources(regs: &[Option<u32>; MAX_REGS], past: usize, rec: &Record) -> Result<(), Question>
     ensures { no_in result ≡ first_no ((9, sources_named regs.now rec.now) ∷ (15, sources_since past regs.now rec.now) ∷ []) }
 {
-    let words = sources_of(rec);
+    let words = sources_of(rec[0], rec);
     check_all_named(regs, words)?;
     if !all_since(regs, past, words) {
         return Err(Question::Since);
@@ -168,8 +175,75 @@ fn check_sources(regs: &[Option<u32>; MAX_REGS], past: usize, rec: &Record) -> R
     Ok(())
 }
 
-// Questions 5 to 9 and 15.
-fn check_record(
+// Questions 7, 9 and 15, of one source word.
+#[inline(always)]
+fn source_passes(count_regs: u32, regs: &[Option<u32>; MAX_REGS], past: usize, w: u32) -> bool
+    ensures { result ≡ source_passes count_regs regs.now past w }
+{
+    if 256 <= w {
+        return true;
+    }
+    let Some(s) = static_of(regs, w) else {
+        return false;
+    };
+    w < count_regs && past <= s as usize
+}
+
+// Questions 7, 9 and 15, of a record's source words.
+#[inline(always)]
+fn all_pass(count_regs: u32, regs: &[Option<u32>; MAX_REGS], past: usize, words: &[u32]) -> bool
+    ensures { result ≡ list_all (source_passes count_regs regs.now past) words.now }
+{
+    words
+        .iter()
+        .all(|&w| source_passes(count_regs, regs, past, w))
+}
+
+// Question 7, of a record's destinations.
+#[inline(always)]
+fn dests_fit(kind: u32, rec: &Record, count_regs: u32) -> bool
+    requires { kind ≡ word_at rec.now 0 }
+    ensures { result ≡ list_all (gen_fits count_regs) (dests rec.now) }
+{
+    match dests_of(kind, rec) {
+        Dests::Nothing => true,
+        Dests::One(x) => gen_fits(count_regs, x),
+        Dests::Two(x, y) => gen_fits(count_regs, x) && gen_fits(count_regs, y),
+    }
+}
+
+// Whether a record passes questions 5 to 9 and 15: most do, and are asked all at once, without looking for the first no.
+#[inline(always)]
+fn passes(
+    kind: u32,
+    rec: &Record,
+    table: &[u32],
+    count_regs: u32,
+    regs: &[Option<u32>; MAX_REGS],
+    past: usize,
+) -> bool
+    requires { kind ≡ word_at rec.now 0 }
+    ensures { result ≡ true → record_no table.now count_regs regs.now past rec.now ≡ 0 }
+{
+    if 20 < kind {
+        return false;
+    }
+    if !fields_fit(kind, rec, table) {
+        return false;
+    }
+    if !partner_fits(kind, rec) {
+        return false;
+    }
+    if !dests_fit(kind, rec, count_regs) {
+        return false;
+    }
+    all_pass(count_regs, regs, past, sources_of(kind, rec))
+}
+
+// The first of questions 5 to 9 and 15 that a record answers with no. Kept out of the walk: it is asked once.
+#[cold]
+#[inline(never)]
+fn find_no(
     rec: &Record,
     table: &[u32],
     count_regs: u32,
@@ -179,7 +253,7 @@ fn check_record(
     ensures { no_in result ≡ record_no table.now count_regs regs.now past rec.now }
 {
     check_shape(rec, table, count_regs)?;
-    if !partner_fits(rec) {
+    if !partner_fits(rec[0], rec) {
         return Err(Question::Partner);
     }
     check_sources(regs, past, rec)
@@ -217,10 +291,72 @@ pub fn check_sizes(list: usize, table: usize, count_regs: u32, room: bool) -> Re
 }
 
 // How many statics were written before the last BranchIf, once a record has been passed; `statics` were there before it.
-fn past_after(rec: &Record, statics: usize, past: usize) -> usize
-    ensures { result ≡ cond (eqb (word_at rec.now 0) branch_if) statics past }
+#[inline(always)]
+fn past_after(kind: u32, statics: usize, past: usize) -> usize
+    ensures { result ≡ cond (eqb kind branch_if) statics past }
 {
-    if rec[0] == BRANCH_IF { statics } else { past }
+    if kind == BRANCH_IF { statics } else { past }
+}
+
+// One turn of the walk: the record is asked, and one that passes is passed. Gives how many statics were written before the last
+// BranchIf then.
+#[inline(always)]
+fn ask_turn(
+    kind: u32,
+    rec: &Record,
+    table: &[u32],
+    count_regs: u32,
+    past: usize,
+    renaming: &mut Renaming,
+) -> Result<usize, Question>
+    requires kind_is { kind ≡ word_at rec.now 0 }
+    requires few { renaming.old.statics + 1 < any }
+    ensures { Asked table.now count_regs past rec.now renaming.old renaming.new result }
+{
+    if !passes(kind, rec, table, count_regs, &renaming.regs, past) {
+        find_no(rec, table, count_regs, &renaming.regs, past)?;
+    }
+    let after = past_after(kind, renaming.statics, past);
+    renaming.pass(kind, rec);
+    Ok(after)
+}
+
+// The turn of the record's kind: in each arm the kind is a number that is written down, and so are the places of its words, which
+// makes a body without jumps of each.
+fn ask_by_kind(
+    rec: &Record,
+    table: &[u32],
+    count_regs: u32,
+    past: usize,
+    renaming: &mut Renaming,
+) -> Result<usize, Question>
+    requires { renaming.old.statics + 1 < any }
+    ensures { Asked table.now count_regs past rec.now renaming.old renaming.new result }
+{
+    match rec[0] {
+        0 => ask_turn(0, rec, table, count_regs, past, renaming),
+        1 => ask_turn(1, rec, table, count_regs, past, renaming),
+        2 => ask_turn(2, rec, table, count_regs, past, renaming),
+        3 => ask_turn(3, rec, table, count_regs, past, renaming),
+        4 => ask_turn(4, rec, table, count_regs, past, renaming),
+        5 => ask_turn(5, rec, table, count_regs, past, renaming),
+        6 => ask_turn(6, rec, table, count_regs, past, renaming),
+        7 => ask_turn(7, rec, table, count_regs, past, renaming),
+        8 => ask_turn(8, rec, table, count_regs, past, renaming),
+        9 => ask_turn(9, rec, table, count_regs, past, renaming),
+        10 => ask_turn(10, rec, table, count_regs, past, renaming),
+        11 => ask_turn(11, rec, table, count_regs, past, renaming),
+        12 => ask_turn(12, rec, table, count_regs, past, renaming),
+        13 => ask_turn(13, rec, table, count_regs, past, renaming),
+        14 => ask_turn(14, rec, table, count_regs, past, renaming),
+        15 => ask_turn(15, rec, table, count_regs, past, renaming),
+        16 => ask_turn(16, rec, table, count_regs, past, renaming),
+        17 => ask_turn(17, rec, table, count_regs, past, renaming),
+        18 => ask_turn(18, rec, table, count_regs, past, renaming),
+        19 => ask_turn(19, rec, table, count_regs, past, renaming),
+        20 => ask_turn(20, rec, table, count_regs, past, renaming),
+        kind => ask_turn(kind, rec, table, count_regs, past, renaming),
+    }
 }
 
 // Questions 5 to 9 and 15, record by record.
@@ -233,11 +369,10 @@ pub fn check_records(list: &[u32], table: &[u32], count_regs: u32) -> Result<(),
     let mut past = 0;
     for (i, rec) in records_of(list).iter().enumerate() {
         // Not `map_err` and `?`: the proof does not reach what a closure gives there.
-        if let Err(question) = check_record(rec, table, count_regs, &renaming.regs, past) {
-            return Err(question.of_record(i as u32));
+        match ask_by_kind(rec, table, count_regs, past, &mut renaming) {
+            Ok(after) => past = after,
+            Err(question) => return Err(question.of_record(i as u32)),
         }
-        past = past_after(rec, renaming.statics, past);
-        renaming.pass(rec);
     }
     Ok(())
 }

@@ -33,48 +33,44 @@ fn produce(regs: &mut [Option<u32>; MAX_REGS], w: u32, next: u32)
     }
 }
 
-// How many statics a record makes.
-pub fn count_statics(rec: &Record) -> u32
-    ensures { result ≡ gens (dests rec.now) }
+// The registers after the destinations of a record; its first new static is `next`. Gives the number after its last. The static
+// after x's is counted here, as it is where destinations take colours and are rewritten.
+#[inline(always)]
+fn produce_all(regs: &mut [Option<u32>; MAX_REGS], kind: u32, rec: &Record, next: u32) -> u32
+    requires kind_is { kind ≡ get_or rec.now 0 0 }
+    requires next_fits { next + 1 < any }
+    ensures regs { regs.new ≡ produced (dests rec.now) next regs.old }
+    ensures next { result ≡ next + gens (dests rec.now) }
 {
-    match dests_of(rec) {
-        Dests::Nothing => 0,
-        Dests::One(x) => count_static(x),
-        Dests::Two(x, y) => count_static(x) + count_static(y),
-    }
-}
-
-// The registers after the destinations of a record; its first new static is `next`. The static after x's is counted here, as it is
-// where destinations take colours and are rewritten: one line between two calls, which a struct of word and static would not save.
-fn produce_all(regs: &mut [Option<u32>; MAX_REGS], rec: &Record, next: u32)
-    requires { next + 1 < any }
-    ensures { regs.new ≡ produced (dests rec.now) next regs.old }
-{
-    match dests_of(rec) {
-        Dests::Nothing => {}
+    match dests_of(kind, rec) {
+        Dests::Nothing => next,
         Dests::One(x) => {
             produce(regs, x, next);
+            next + count_static(x)
         }
         Dests::Two(x, y) => {
             produce(regs, x, next);
-            produce(regs, y, next + count_static(x));
+            let after = next + count_static(x);
+            produce(regs, y, after);
+            after + count_static(y)
         }
     }
 }
 
-// The registers after a record.
-pub fn rename(regs: &mut [Option<u32>; MAX_REGS], rec: &Record, next: u32)
-    requires { next + 1 < any }
-    ensures { regs.new ≡ renamed rec.now next regs.old }
+// The registers after a record. Gives the number of the next static.
+#[inline(always)]
+fn rename(regs: &mut [Option<u32>; MAX_REGS], kind: u32, rec: &Record, next: u32) -> u32
+    requires kind_is { kind ≡ get_or rec.now 0 0 }
+    requires next_fits { next + 1 < any }
+    ensures regs { regs.new ≡ renamed rec.now next regs.old }
+    ensures next { result ≡ next + gens (dests rec.now) }
 {
-    let kind = rec[0];
     match kind {
         CALL | LABEL => {
             *regs = [None; MAX_REGS];
+            next
         }
-        _ => {
-            produce_all(regs, rec, next);
-        }
+        _ => produce_all(regs, kind, rec, next),
     }
 }
 
@@ -101,12 +97,13 @@ impl Renaming {
     }
 
     // After a record.
-    pub fn pass(&mut self, rec: &Record)
-        requires { self.old.statics + 1 < any }
+    #[inline(always)]
+    pub fn pass(&mut self, kind: u32, rec: &Record)
+        requires kind_is { kind ≡ get_or rec.now 0 0 }
+        requires statics_fit { self.old.statics + 1 < any }
         ensures regs { self.new.regs ≡ renamed rec.now self.old.statics self.old.regs }
         ensures statics { self.new.statics ≡ self.old.statics + gens (dests rec.now) }
     {
-        rename(&mut self.regs, rec, self.statics as u32);
-        self.statics += count_statics(rec) as usize;
+        self.statics = rename(&mut self.regs, kind, rec, self.statics as u32) as usize;
     }
 }

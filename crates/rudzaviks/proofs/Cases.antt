@@ -10,7 +10,7 @@ use Rattle.mir.specs.Folds.{first_refusal}
 use Rattle.mir.specs.Questions.{refusal, record_refusal, branch_refusal, few_registers, few_args, well_sized, known_kind, shape_no, shape_refusal, sizes_refusal, refusal_beside}
 use Rattle.mir.specs.Records.{record_at}
 use Rattle.walks.specs.Lent.{lent}
-use Rattle.allocator.specs.Optimize.{room_for, room_in}
+use Rattle.allocator.specs.Optimize.{room_for, room_in_words}
 use Rattle.rudzaviks.specs.Exports.{refusal_word, place_word, parts_words, survey_verdict, records_word, verdict_with, bytes_verdict}
 use Rattle.file.specs.File.{settings_of, word_in, words_in, settings_in, table_in, list_in, well_formed, file_verdict}
 
@@ -42,7 +42,7 @@ pub record ExportCases : Type 0 where
   pub long_file : bytes_verdict (zeros 29) (zeros 4) ≡ Refused 3 0
 
 pub export_cases : ExportCases
-unfolding survey_verdict refusal_beside sizes_refusal shape_refusal shape_no known_kind record_at verdict_with room_in room_for word_in
+unfolding survey_verdict refusal_beside sizes_refusal shape_refusal shape_no known_kind record_at verdict_with room_in_words room_for word_in
     words_in settings_in table_in list_in well_formed file_verdict refusal record_refusal branch_refusal few_registers few_args well_sized
     first_refusal
 export_cases =

@@ -1,5 +1,5 @@
--- The promise of `rudzaviks_optimize`, from that of `optimize` and from the slice of counts.
--- Its verdict is that of `optimize` if the counts have room, and otherwise a refusal.
+-- The promise of `rudzaviks_optimize`, from that of `optimize_words` and from the slice of counts.
+-- Its verdict is that of `optimize_words` if the counts have room, and otherwise a refusal.
 use Prim.Native.Nat.{ℕ, ◌<◌, ◌≤◌}
 use mathlib.Core.Bool.{false, and-true, and-false}
 use mathlib.Core.List.{List, []}
@@ -10,7 +10,7 @@ use Rattle.std.specs.Prelude.{Result}
 use Rattle.mir.specs.declared.refusal.Refusal.{Refusal}
 use Rattle.walks.specs.declared.Counts.{Counts}
 use Rattle.walks.specs.Lent.{Lent}
-use Rattle.allocator.specs.Optimize.{Optimized, room_in, verdict_of, report, records_in}
+use Rattle.allocator.specs.Optimize.{OptimizedWords, room_in_words, verdict_of_words, report, records_in}
 use Rattle.passes.specs.Contract.{counts_of}
 use Rattle.mir.specs.declared.config.Settings.{Settings}
 use Rattle.mir.specs.Answers.{Verdict}
@@ -23,13 +23,13 @@ use Rattle.rudzaviks.proofs.Written.{written, left_by}
 use Rattle.rudzaviks.specs.Exports.{RudzaviksOptimize, verdict_with, report_word, records_word}
 
 module _ {s : Settings} {list table : List ℕ} {held : Lent} {counts : List ℕ} where
-  -- an answer as `optimize` gave it
+  -- an answer as `optimize_words` gave it
   pub entry_answered : {now : Lent} {result given : Result Counts Refusal} {now_counts : List ℕ} → 7 ≤ length counts
-      → Optimized s list table held now result → result ≡ given → now_counts ≡ written (λ values. values) (report given) counts
+      → OptimizedWords s list table held now result → result ≡ given → now_counts ≡ written (λ values. values) (report given) counts
       → RudzaviksOptimize s list table held counts now now_counts (report_word records_word (report given))
-  unfolding verdict_of verdict_with
+  unfolding verdict_of_words verdict_with
   entry_answered {result = result} {given = given} h p g c =
-      let e : verdict_of s list table held ≡ verdict_with s list table held counts = rw (le-leb 7 (length counts) h, and-true (room_in list table held)) in
+      let e : verdict_of_words s list table held ≡ verdict_with s list table held counts = rw (le-leb 7 (length counts) h, and-true (room_in_words list table held)) in
       record {
         word = cc;
         out = cc;
@@ -48,7 +48,7 @@ module _ {s : Settings} {list table : List ℕ} {held : Lent} {counts : List ℕ
   unfolding verdict_with
   entry_short Passed h e = clash (cc (room_passes false s list table (sym e)))
   entry_short (Refused number index) h e =
-      let f : verdict_with s list table held counts ≡ Refused number index = rw (lt-leb 7 (length counts) h, and-false (room_in list table held)) (sym e) in
+      let f : verdict_with s list table held counts ≡ Refused number index = rw (lt-leb 7 (length counts) h, and-false (room_in_words list table held)) (sym e) in
       record {
         word = rw f;
         out = rw f;

@@ -2,7 +2,7 @@
 -- refused the list, 0 for none, so a refusal is never taken for an answer; a refusal's index stands in bits 0 to 31.
 use Rattle.std.specs.Prelude.{ℕ, ◌+◌, ◌*◌, ◌/◌, ◌%◌, ◌^◌, Bool, ◌&&◌, List, [], ◌∷◌, ◌≡◌, leb, get_or, length, take}
 use Rattle.walks.specs.Lent.{Lent}
-use Rattle.allocator.specs.Optimize.{room_in, left}
+use Rattle.allocator.specs.Optimize.{room_in_words, left}
 use Rattle.mir.specs.declared.config.Settings.{Settings}
 use Rattle.mir.specs.Answers.{Verdict}
 use Rattle.mir.specs.Answers.{Passed}
@@ -51,7 +51,7 @@ records_word values = get_or values 0 0
 
 -- the questions; question 4 also asks for a slice of at least seven counts
 unfoldable pub verdict_with : Settings → List ℕ → List ℕ → Lent → List ℕ → Verdict
-verdict_with s list table held counts = refusal (room_in list table held && leb 7 (length counts)) s list table
+verdict_with s list table held counts = refusal (room_in_words list table held && leb 7 (length counts)) s list table
 
 -- the promise, with what the lent slices held and hold
 pub record RudzaviksOptimize (s : Settings) (list table : List ℕ) (held : Lent) (held_counts : List ℕ) (now : Lent)

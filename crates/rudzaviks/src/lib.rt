@@ -8,7 +8,7 @@ ghost use Rattle.file.specs.File.{flag, settings_of, layout_of};
 ghost use Rattle.mir.specs.Answers.{number_of, over, unless, verdict_in};
 ghost use Rattle.survey.specs.Beside.{place_in};
 
-use allocator::optimize;
+use allocator::words::optimize_words;
 use file::layout::{Layout, layout_of, write_words};
 use file::reduce::{LIST, reduce_sections};
 use file::settings_of;
@@ -118,7 +118,7 @@ pub fn rudzaviks_optimize(
     if counts.len() < 7 {
         return verdict_word(check(list, table, settings, false));
     }
-    match optimize(list, table, settings, out, colours, ends, set) {
+    match optimize_words(list, table, settings, out, colours, ends, set) {
         Ok(c) => {
             write_counts(c, counts);
             u64::from(c.tally.records)

@@ -1,3 +1,4 @@
 -- Laws of the read set and its index.
 pub mod Pairs
-pub mod Index
+pub mod Paths
+pub mod Cases

@@ -8,14 +8,12 @@ use native.Mathlib.Nat.{add-zero, zero-add, add-suc, suc-add}
 use native.Mathlib.Numerals.{add-one}
 use native.Mathlib.Omega.{arith}
 use lib.ListN.{length, get_or, set, drop, length-append, length-set}
-use lib.Seq.{get_or-set_other}
 use Rattle.passes.specs.declared.symbol.Loc.{Loc}
 use Rattle.passes.specs.Color.{same_loc, pairs_from, is_member, join, joined}
 use Rattle.theorems.proofs.Members.{pairs_length}
 use Rattle.theorems.proofs.ReadSet.{member_append, member_snoc}
 use Rattle.sets.specs.Sets.{pair_at}
 use Rattle.sets.specs.declared.ReadSet.{ReadSet}
-use Rattle.sets.proofs.Index.{indexed_more}
 use Rattle.sets.specs.Members.{members_in, SetHolds}
 use Rattle.mir.specs.Answers.{over}
 use Rattle.passes.specs.Contract.{words_of}
@@ -126,16 +124,6 @@ room_for t n l e h =
     let r = rw e at h in
     omega (arith, r, length-append (pairs_from t 0 n) (l ∷ []), pairs_length t 0 n)
 
--- what is written behind the pairs changes none of them
-pairs_agree : (t u : List ℕ) (f n : ℕ) → ((k : ℕ) → k < (f + n) * 2 → get_or t k 0 ≡ get_or u k 0) → pairs_from t f n ≡ pairs_from u f n
-unfolding pairs_from
-pairs_agree t u f zero same = refl
-pairs_agree t u f (suc n) same =
-    rw (same (f * 2) (omega arith), same (f * 2 + 1) (omega arith)) (ap (λ r. pair_at u f ∷ r) (pairs_agree t u (suc f) n (λ k l. same k (omega arith))))
-
-pub pairs_set : (t : List ℕ) (n k v : ℕ) → n * 2 ≤ k → pairs_from (set t k v) 0 n ≡ pairs_from t 0 n
-pairs_set t n k v h = pairs_agree (set t k v) t 0 n (λ j l. get_or-set_other t k j v 0 (λ e. omega arith))
-
 pub join_grows : (ms : List Loc) (l : Loc) → length ms ≤ length (join ms l)
 join_grows ms l = go (is_member l ms)
   where
@@ -198,10 +186,8 @@ module _ {s : ReadSet} {ms : List Loc} {before : ReadSet} (h : SetHolds s ms bef
         fits = rw (← holds_length) h'.fits;
       }
 
--- what `scan` and `insert` need
-pub ruleset member_rules = (member_none, member_more, member_found)
-
-pub ruleset insert_rules = (holds_own, pair_words, pair_joins, pairs_set, room_for, indexed_more, length-set)
+-- what `insert` needs
+pub ruleset insert_rules = (holds_own, pair_words, pair_joins, room_for, length-set)
 
 -- what a step of the set needs: it holds its own members, and it grows
 pub ruleset set_rules = (holds_own, holds_length, holds_more, join_grows)

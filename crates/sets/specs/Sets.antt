@@ -1,32 +1,43 @@
--- Inner: the index of the read set.
-use Rattle.std.specs.Prelude.{ℕ, ◌+◌, ◌*◌, ◌/◌, ◌%◌, ◌^◌, Bool, true, cond, ◌&&◌, List, ◌≡◌, ltb, length, get_or, set}
-use Rattle.std.specs.Int.Bits.{bit_or}
-use Rattle.colours.specs.Masks.{has_bit}
+-- Inner: the index of the read set: links, each a member's place plus 1, or 0 for none. A member has two, one for each bit that
+-- may come next in the key of a location; the links before those of the members are heads, and a location starts at one of them.
+use Rattle.std.specs.Prelude.{ℕ, ◌+◌, ◌*◌, ◌/◌, ◌%◌, ◌<◌, ◌≤◌, ◌≢◌, List, ◌≡◌, false, length, get_or}
 use Rattle.passes.specs.declared.symbol.Loc.{Loc}
-use Rattle.passes.specs.Color.{is_member, loc}
+use Rattle.passes.specs.Color.{pairs_from, is_member, loc}
 
 -- the location whose words are a list's jth pair
 abbrev pub pair_at : List ℕ → ℕ → Loc
 pair_at t j = loc (get_or t (j * 2) 0) (get_or t (j * 2 + 1) 0)
 
--- the index is three rows of 65,536 bits, one row for each space, in words of 64 bits; the cells that have a bit are near,
--- and a bit is set if its cell is a member
-abbrev pub is_near : Loc → Bool
-is_near l = ltb l.space 3 && ltb l.index 65536
+-- a location's head and its key; the link at a place, which has 24 bits in two parts
+abbrev pub bucket : Loc → ℕ → ℕ
+bucket l heads = (((l.index * 2654435769 + l.space * 1000003) % 4294967296) * heads) / 4294967296
 
-abbrev pub cell_of : Loc → ℕ
-cell_of l = l.space * 65536 + l.index
+abbrev pub key : Loc → ℕ
+key l = l.space * 4294967296 + l.index
 
-abbrev pub bit_at : List ℕ → ℕ → Bool
-bit_at seen c = has_bit (get_or seen (c / 64) 0) (c % 64)
+abbrev pub link : List ℕ → List ℕ → ℕ → ℕ
+link low high k = get_or high k 0 * 65536 + get_or low k 0
 
-pub record Indexed (seen : List ℕ) (members : List Loc) : Type 0 where
-  pub size : length seen ≡ 3072
-  pub tells : (l : Loc) → is_near l ≡ true → bit_at seen (cell_of l) ≡ is_member l members
+-- there is a head, and a link for each head and each word
+pub record Roomy (heads words low high : ℕ) : Type 0 where
+  pub some : 0 < heads
+  pub in_low : heads + words ≤ low
+  pub in_high : heads + words ≤ high
+  pub small : heads + words ≤ 16777216
 
--- a bit set, and a location marked in the index
-abbrev pub with_bit : List ℕ → ℕ → List ℕ
-with_bit seen c = set seen (c / 64) (bit_or (get_or seen (c / 64) 0) (2 ^ (c % 64)))
+-- a walk that has come to a place, with these bits of the key left, goes on to member j
+pub data Path (at : ℕ → ℕ) (heads j : ℕ) : ℕ → ℕ → Type 0 where
+  here : {k bits : ℕ} → at k ≡ j + 1 → Path at heads j k bits
+  there : {k bits : ℕ} (w : ℕ) → at k ≡ w + 1 → Path at heads j (heads + (w * 2 + bits % 2)) (bits / 2) → Path at heads j k bits
 
-abbrev pub noted : Loc → List ℕ → List ℕ
-noted l seen = cond (is_near l) (with_bit seen (cell_of l)) seen
+-- links go up, to members, and the walk for each member comes to it
+pub record Indexed (words : List ℕ) (n heads : ℕ) (at : ℕ → ℕ) : Type 0 where
+  pub up : (k w : ℕ) → at k ≡ w + 1 → (k < heads + w * 2) × (w < n)
+  pub paths : (j : ℕ) → j < n → ∥ Path at heads j (bucket (pair_at words j) heads) (key (pair_at words j)) ∥₁
+
+-- the walk for a location that is no member ends at a place with no link; with one to the next member it goes on to that
+pub record Ends (words : List ℕ) (n heads : ℕ) (at : ℕ → ℕ) (l : Loc) (k : ℕ) : Type 0 where
+  pub absent : is_member l (pairs_from words 0 n) ≡ false
+  pub inside : k < heads + n * 2
+  pub empty : at k ≡ 0
+  pub leads : (at' : ℕ → ℕ) → ((i : ℕ) → i ≢ k → at' i ≡ at i) → at' k ≡ n + 1 → Path at' heads n (bucket l heads) (key l)

@@ -2,8 +2,8 @@
 // and without repeats.
 #![tactic(auto)]
 
-ghost use Rattle.std.specs.Prelude.{◌+◌, ◌*◌, ◌/◌, ◌<◌, ◌≤◌, [], true, cond, Some, None, ◌≡◌, length};
-ghost use Rattle.sets.specs.Sets.{Indexed, is_near, cell_of, bit_at, with_bit, noted, pair_at};
+ghost use Rattle.std.specs.Prelude.{ℕ, ◌+◌, ◌*◌, ◌/◌, ◌%◌, ◌<◌, ◌≤◌, [], true, ◌≡◌, length, set, MatchOption};
+ghost use Rattle.sets.specs.Sets.{pair_at, bucket, key, link, Roomy, Indexed, Ends};
 ghost use Rattle.passes.specs.Color.{pairs_from, is_member, join, joined};
 
 use passes::symbol::Loc;
@@ -19,59 +19,71 @@ fn loc_at(words: &[u32], j: usize) -> Loc
     }
 }
 
-// The place of the location's bit, if the index has one.
-fn cell(l: Loc) -> Option<usize>
-    ensures { result ≡ cond (is_near l) (Some (cell_of l)) None }
+// The head where the walk for a location starts; its index is mixed, so that neighbours start apart.
+fn bucket(l: Loc, heads: usize) -> usize
+    requires { heads ≤ 16777216 }
+    ensures { result ≡ bucket l heads }
 {
-    if l.space < 3 && l.index < 65_536 {
-        Some((l.space as usize) * 65_536 + (l.index as usize))
-    } else {
-        None
-    }
+    let mixed = u64::from(l.index) * 2_654_435_769 + u64::from(l.space) * 1_000_003;
+    ((mixed % 4_294_967_296) * (heads as u64) / 4_294_967_296) as usize
 }
 
-// Whether the bit at place `c` is set.
-fn bit_at(seen: &[u64; 3_072], c: usize) -> bool
-    requires { c / 64 < 3072 }
-    ensures { result ≡ bit_at seen.now c }
+// The bits that the walk for a location goes by, lowest first.
+fn key(l: Loc) -> u64
+    ensures { result ≡ key l }
 {
-    (seen[c / 64] >> (c % 64)) % 2 == 1
+    u64::from(l.space) * 4_294_967_296 + u64::from(l.index)
 }
 
-// Sets the bit at place `c`.
-fn set_bit(seen: &mut [u64; 3_072], c: usize)
-    requires { c / 64 < 3072 }
-    ensures { seen.new ≡ with_bit seen.old c }
+// The link at a place, which stands in two parts: 24 bits for each take less room than words.
+fn link(low: &[u16], high: &[u8], place: usize) -> usize
+    requires in_low { place < length low.now }
+    requires in_high { place < length high.now }
+    ensures { result ≡ link low.now high.now place }
 {
-    seen[c / 64] |= 1 << (c % 64);
+    (high[place] as usize) * 65_536 + (low[place] as usize)
 }
 
-// Marks the location in the index.
-fn note(seen: &mut [u64; 3_072], l: Loc)
-    ensures { seen.new ≡ noted l seen.old }
+// A link goes to a place.
+fn put(low: &mut [u16], high: &mut [u8], place: usize, v: usize)
+    requires in_low { place < length low.old }
+    requires in_high { place < length high.old }
+    requires v_fits { v < 16777216 }
+    ensures low { low.new ≡ set low.old place (v % 65536) }
+    ensures high { high.new ≡ set high.old place (v / 65536) }
 {
-    if let Some(c) = cell(l) {
-        set_bit(seen, c);
-    }
+    low[place] = (v % 65_536) as u16;
+    high[place] = (v / 65_536) as u8;
 }
 
-/// The members lie in `words`, which are lent, two words each. `seen` is their index: a bit for each of the first 65,536
-/// cells of each space.
+/// The members lie in `words`, which are lent, two words each. `low` and `high` are their index, lent too: links, first the heads
+/// and then two for each member. Below a head the members are a tree, which is searched by the bits of a location's key: members on
+/// one path agree in one bit more at each step, so it passes 35 of them at most, as a key of the three spaces has 34 bits.
 #[derive(Drop)]
 pub struct ReadSet<'a> {
     pub words: &'a mut [u32],
     pub len: usize,
-    pub seen: [u64; 3_072],
+    pub heads: usize,
+    pub low: &'a mut [u16],
+    pub high: &'a mut [u8],
     pub ghost room: { len * 2 ≤ length words.now },
-    pub ghost index: { Indexed seen (pairs_from words.now 0 len) },
+    pub ghost links: { Roomy heads (length words.now) (length low.now) (length high.now) },
+    pub ghost index: { Indexed words.now len heads (link low.now high.now) },
 }
 
 impl<'a> ReadSet<'a> {
     ghost use Rattle.sets.specs.Members.{members_in, SetHolds};
 
     /// No members yet.
-    #[tactic(auto, using(crate::proofs::Index::indexed_none), unfolding(passes::specs::Color::pairs_from))]
-    pub fn new(words: &'a mut [u32]) -> ReadSet<'a>
+    #[tactic(auto, unfolding(passes::specs::Color::pairs_from))]
+    pub fn new(
+        words: &'a mut [u32],
+        heads: usize,
+        low: &'a mut [u16],
+        high: &'a mut [u8],
+    ) -> ReadSet<'a>
+        requires links { Roomy heads (length words.old) (length low.old) (length high.old) }
+        requires no_links { (k : ℕ) → link low.old high.old k ≡ 0 }
         ensures same_reference { result.words.ghost_name ≡ words.entry.ghost_name }
         ensures words { result.words.now ≡ words.old }
         ensures empty { members_in result ≡ [] }
@@ -79,7 +91,9 @@ impl<'a> ReadSet<'a> {
         ReadSet {
             words,
             len: 0,
-            seen: [0; 3_072],
+            heads,
+            low,
+            high,
         }
     }
 
@@ -90,26 +104,29 @@ impl<'a> ReadSet<'a> {
         self.len
     }
 
-    // Looks for a location among all members.
-    #[tactic(auto, using(crate::proofs::Pairs::member_rules))]
-    fn scan(&self, l: Loc) -> bool
-        ensures { result ≡ is_member l (members_in self.now) }
+    // The place with no link where the walk for a location ends, unless it comes to the location.
+    fn find(&self, l: Loc) -> Option<usize>
+        ensures { MatchOption result (is_member l (members_in self.now) ≡ true) (λ place. Ends self.now.words.now self.now.len self.now.heads (link self.now.low.now self.now.high.now) l place) }
     {
-        for j in 0..self.len {
-            if loc_at(self.words, j) == l {
-                return true;
+        let mut place = bucket(l, self.heads);
+        let mut bits = key(l);
+        loop {
+            let v = link(self.low, self.high, place);
+            if v == 0 {
+                return Some(place);
             }
+            if loc_at(self.words, v - 1) == l {
+                return None;
+            }
+            place = self.heads + ((v - 1) * 2 + (bits % 2) as usize);
+            bits /= 2;
         }
-        false
     }
 
     pub fn contains(&self, l: Loc) -> bool
         ensures { result ≡ is_member l (members_in self.now) }
     {
-        match cell(l) {
-            Some(c) => bit_at(&self.seen, c),
-            None => self.scan(l),
-        }
+        self.find(l).is_none()
     }
 
     /// The location joins, unless it is a member already.
@@ -118,13 +135,13 @@ impl<'a> ReadSet<'a> {
         requires { length (join (members_in self.old) l) * 2 ≤ length self.old.words.now }
         ensures { SetHolds self.new (join (members_in self.old) l) self.old }
     {
-        if self.contains(l) {
+        let Some(place) = self.find(l) else {
             return;
-        }
+        };
         let at = self.len * 2;
         self.words[at] = l.space;
         self.words[at + 1] = l.index;
-        note(&mut self.seen, l);
+        put(self.low, self.high, place, self.len + 1);
         self.len += 1;
     }
 

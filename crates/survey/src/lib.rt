@@ -56,7 +56,7 @@ fn get_dst(rec: &Record) -> u64
     let kind = rec[0];
     match kind {
         BRANCH_IF => bit(rec[1]),
-        _ => match dests_of(rec) {
+        _ => match dests_of(rec[0], rec) {
             Dests::Nothing => 0,
             Dests::One(x) => bit(x),
             Dests::Two(x, y) => two_bits(x, y),

@@ -1,11 +1,18 @@
 // Replays stored answers of the original Rust against the functions of crate rudzaviks, which rudzaviks_c exports.
+// Each reduced list also goes through `optimize`, which is lent entries for the statics.
 // docs/FORMAT.md has the form of its input, which importer/ makes; this program needs no Rust.
 #![tactic(auto)]
 
 ghost use Rattle.std.specs.Prelude.{◌≡◌, ◌≢◌, ◌+◌, ◌*◌, ◌/◌, ◌%◌, ◌^◌, IsTrue, ◌≤◌, ◌↔◌, length, IfOk, IfSome, IsSome};
 ghost use Rattle.file.specs.File.{word_in};
 
+mod entries;
+
+use crate::entries::{same_entries, word_of};
+use allocator::optimize;
+use allocator::statics::Static;
 use console::{length_to, word};
+use file::settings_of;
 use rudzaviks::{rudzaviks_optimize, rudzaviks_survey};
 use std::io;
 use std::io::{Read, Write};
@@ -29,6 +36,12 @@ const PARTS: usize = 7;
 
 // What every word of a lent slice is at first.
 const FILL: u32 = 2_779_096_485;
+
+// What every entry is at first.
+const UNWRITTEN: Static = Static {
+    colour: FILL,
+    end: FILL,
+};
 
 // Puts the next words, their number first, at the start of `space`, and answers them; none if they had no room there.
 fn words<'a, R: Read>(input: &mut R, space: &'a mut [u32]) -> io::Result<Option<&'a [u32]>>
@@ -230,7 +243,27 @@ impl Case<'_> {
         Ok(starts(input, &parts[..n])? && got == stored.answer())
     }
 
-    // Whether `optimize` gives the stored answer, and leaves slices of the stored lengths as they are stored.
+    // Whether `optimize` with entries, as many as the shorter slice of words has, answers as the stored answer says, and
+    // leaves what the words are.
+    fn has_entries(self, lent: &Lent<'_>, answer: u64) -> bool {
+        let mut out = [FILL; OUT];
+        let mut statics = [UNWRITTEN; STATICS];
+        let mut set = [FILL; SET];
+        let room = lent.colours.len().min(lent.ends.len());
+        let out = &mut out[..lent.out.len().min(OUT)];
+        let statics = &mut statics[..room.min(STATICS)];
+        let set = &mut set[..lent.set.len().min(SET)];
+        let s = self.settings;
+        let settings = settings_of(s.count_regs, s.args, s.complex, s.arm, s.compress);
+        let given = optimize(self.list, self.table, settings, out, statics, set);
+        word_of(given) == answer
+            && *out == *lent.out
+            && same_entries(statics, lent.colours, lent.ends)
+            && *set == *lent.set
+    }
+
+    // Whether the C entry and `optimize` give the stored answer, and leave slices of the stored lengths as they are stored.
+    // The latter has no slice of counts, so a case that is refused for that slice is the C entry's alone.
     fn optimizes(self, stored: Stored, input: &mut impl Read) -> io::Result<bool> {
         let mut out = [FILL; OUT];
         let mut colours = [FILL; STATICS];
@@ -245,7 +278,8 @@ impl Case<'_> {
             counts: &mut counts[..length_to(input, COUNTS)?],
         };
         let got = self.optimize(&mut lent);
-        Ok(lent.are_stored(input)? && got == stored.answer())
+        let same = lent.are_stored(input)? && got == stored.answer();
+        Ok(same && (lent.counts.len() < 7 || self.has_entries(&lent, got)))
     }
 
     // Whether the operation's answer is the stored one, which comes next.

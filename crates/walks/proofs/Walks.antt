@@ -1,10 +1,11 @@
 -- The walks one after the other: what each leaves is what the next asks for, and the whole is the definitions'.
 -- By the laws of a slice that starts with words; a later walk writes over what an earlier one left.
 use Prim.Native.Nat.{ℕ, ◌*◌, ◌≤◌}
-use mathlib.Core.List.{List, [], ◌∷◌}
+use mathlib.Core.List.{List, [], ◌∷◌, ◌++◌, append_assoc}
 use mathlib.Core.Path.{◌≡◌, refl, sym, ap, ◌∙◌}
 use native.Mathlib.Omega.{arith}
-use lib.ListN.{length}
+use lib.ListN.{length, take, drop, length-append, length-drop}
+use Rattle.std.proofs.lemmas.List.{drop-append-le, take-append-drop}
 use Rattle.mir.specs.declared.config.Settings.{Settings}
 use Rattle.mir.specs.Records.{records}
 use Rattle.mir.specs.Shapes.{any}
@@ -32,6 +33,14 @@ starts ws old e = e ∙ (sym (over_over ws ws old (omega arith)) ∙ ap (over ws
 -- words written over as many
 pub again : (ws vs old : List ℕ) {new last : List ℕ} → length vs ≤ length ws → new ≡ over vs old → last ≡ over ws new → last ≡ over ws old
 again ws vs old h e f = f ∙ (ap (over ws) e ∙ over_over ws vs old h)
+
+-- words written over a part that begins a slice
+pub over_begin : (ws old : List ℕ) (n : ℕ) {part : List ℕ} → part ≡ over ws (take n old) → length part ≡ length (take n old) → part ++ drop n old ≡ over ws old
+over_begin ws old n e same =
+    let fits : length ws ≤ length (take n old) = omega (arith, ap length e, length-append ws (drop (length ws) (take n old)), length-drop (length ws) (take n old)) in
+    ap (λ r. r ++ drop n old) e
+    ∙ (append_assoc ws (drop (length ws) (take n old)) (drop n old)
+    ∙ ap (λ r. ws ++ r) (sym (drop-append-le (length ws) (take n old) (drop n old) fits) ∙ ap (drop (length ws)) (take-append-drop n old)))
 
 module _ (s : Settings) (list table : List ℕ) (h : Passing s list table) where
   passes : ListPasses s list table

@@ -1,9 +1,11 @@
 -- Inner: what the last walk and all walks together do to the lent slices.
-use Rattle.std.specs.Prelude.{ℕ, ◌+◌, ◌*◌, ◌/◌, ◌<◌, ◌≤◌, Bool, cond, List, [], ◌∷◌, ◌++◌, ◌≡◌, length, get_or, take, drop, Option}
+use Rattle.std.specs.Prelude.{ℕ, ◌+◌, ◌*◌, ◌/◌, ◌%◌, ◌<◌, ◌≤◌, Bool, true, cond, List, map, [], ◌∷◌, ◌++◌, ◌≡◌, length, get_or, take, drop, Option}
 use Rattle.mir.specs.declared.config.Settings.{Settings}
 use Rattle.mir.specs.Records.{records, is_gen}
-use Rattle.mir.specs.Renaming.{one}
-use Rattle.mir.specs.Shapes.{shape_for, dests}
+use Rattle.mir.specs.Questions.{partner_fits}
+use Rattle.mir.specs.Renaming.{one, gens, renamed}
+use Rattle.mir.specs.declared.rename.Renaming.{Renaming}
+use Rattle.mir.specs.Shapes.{any, shape_for, dests}
 use Rattle.walks.specs.declared.contract.Tally.{Tally}
 use Rattle.passes.specs.declared.alloc.Outcome.{Outcome}
 use Rattle.passes.specs.declared.alloc.Outcome.TheVariants.{Kept, Nop, Load, Move, Save}
@@ -12,7 +14,7 @@ use Rattle.passes.specs.Create.{ends_of}
 use Rattle.passes.specs.Machine.{Passing}
 use Rattle.walks.specs.declared.Counts.{Counts}
 use Rattle.walks.specs.Lent.{Lent, values_in}
-use Rattle.passes.specs.Contract.{outcome_of, colours_of, members_of, count_of, reduced, counts_of, words_of}
+use Rattle.passes.specs.Contract.{is_kept, outcome_of, colours_of, members_of, count_of, reduced, counts_of, words_of}
 use Rattle.mir.specs.Answers.{over}
 use Rattle.coloring.specs.Coloring.{source_words, was_found, marked_ends}
 
@@ -57,6 +59,25 @@ put_if kept at rec out = cond kept (take at out ++ over rec (drop at out)) out
 -- what becomes of a record
 abbrev pub outcome_in : ℕ → List Loc → List (Option ℕ) → ℕ → List ℕ → List ℕ → List ℕ → Outcome
 outcome_in fixed members regs n colours ends rec = outcome_of fixed members (was_found (dests rec) n ends) (rewritten regs n colours rec)
+
+-- a turn of the last walk: what it asks of a record, the slices and the counts, and what it leaves
+pub record MayTurn (rec : List ℕ) (r : Renaming) (colours ends : ℕ) (t : Tally) (out : ℕ) : Type 0 where
+  pub partner_fits : partner_fits rec ≡ true
+  pub few : r.statics + 1 < any
+  pub colours_room : r.statics + 2 ≤ colours
+  pub ends_room : r.statics + 2 ≤ ends
+  pub short : Short t any
+  pub out_room : t.records * 8 + 8 ≤ out
+
+abbrev pub unmarked : ℕ → ℕ → List ℕ → List ℕ
+unmarked first made ends = take first ends ++ (map (λ end. end % 65536) (take made (drop first ends)) ++ drop made (drop first ends))
+
+pub record Turned (fixed : ℕ) (members : List Loc) (colours rec : List ℕ) (r r' : Renaming) (ends ends' : List ℕ) (t t' : Tally) (out out' : List ℕ) : Type 0 where
+  pub regs_are : r'.regs ≡ renamed rec r.statics r.regs
+  pub statics_are : r'.statics ≡ r.statics + gens (dests rec)
+  pub ends_are : ends' ≡ unmarked r.statics (gens (dests rec)) ends
+  pub tally_is : t' ≡ tallied (outcome_in fixed members r.regs r.statics colours ends rec) t
+  pub out_is : out' ≡ put_if (is_kept (outcome_in fixed members r.regs r.statics colours ends rec)) (t.records * 8) (rewritten r.regs r.statics colours rec) out
 
 -- what the third walk leaves: the words that the slices of colours and of marked ends start with, and the read set
 pub record Colored (s : Settings) (list table colours ends : List ℕ) (members : List Loc) : Type 0 where

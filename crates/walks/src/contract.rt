@@ -3,9 +3,9 @@ ghost use Rattle.std.specs.Prelude.{ℕ, ◌+◌, ◌*◌, ◌<◌, ◌≤◌, �
 ghost use Rattle.std.proofs.lemmas.List.Edits.{sets};
 ghost use Rattle.mir.specs.Answers.{over};
 ghost use Rattle.sets.specs.Members.{members_in};
-ghost use Rattle.walks.specs.Walks.{Colored, Contracted, Short, dest_words, rewritten, outcome_in, tallied, put_if};
+ghost use Rattle.walks.specs.Walks.{Colored, Contracted, MayTurn, Turned, Short, dest_words, rewritten, outcome_in, tallied, put_if};
 ghost use Rattle.mir.specs.Questions.{partner_fits};
-ghost use Rattle.mir.specs.Records.{is_gen};
+ghost use Rattle.mir.specs.Records.{is_gen, word_at};
 ghost use Rattle.mir.specs.Shapes.{any, dests, shape_for};
 ghost use Rattle.passes.specs.Color.{source_word, is_member};
 ghost use Rattle.passes.specs.Color as color;
@@ -23,6 +23,7 @@ use passes::symbol::Loc;
 use sets::ReadSet;
 
 // A destination in colours: the colour of its static, which is `next`.
+#[inline(always)]
 fn dest_word(w: u32, next: usize, colours: &[u32]) -> u32
     requires { next < length colours.now }
     ensures { result ≡ cond (is_gen w) (get_or colours.now next 0) w }
@@ -30,30 +31,32 @@ fn dest_word(w: u32, next: usize, colours: &[u32]) -> u32
     if w < 256 { colours[next] } else { w }
 }
 
-// A record with its destinations in colours; y has the static after x's (mir/rename.rt has why it is counted here).
-fn rewrite_dests(rec: &Record, next: usize, colours: &[u32]) -> Record
-    requires { next + 2 ≤ length colours.now }
-    ensures { result ≡ sets rec.now (shape_for rec.now).regs (dest_words (dests rec.now) next colours.now) }
+// The destinations of a record in colours, where its words were copied to; y has the static after x's (mir/rename.rt has why it is
+// counted here).
+#[inline(always)]
+fn rewrite_dests(kind: u32, rec: &Record, next: usize, colours: &[u32], out: &mut [u32])
+    requires kind_is { kind ≡ word_at rec.now 0 }
+    requires colours_room { next + 2 ≤ length colours.now }
+    requires copied { out.old ≡ rec.now }
+    ensures { out.new ≡ sets rec.now (shape_for rec.now).regs (dest_words (dests rec.now) next colours.now) }
 {
-    let s = shape_of(rec[0]);
+    let s = shape_of(kind);
     let p = s.regs;
-    let mut out = *rec;
-    match dests_of(rec) {
-        Dests::Nothing => out,
+    match dests_of(kind, rec) {
+        Dests::Nothing => {}
         Dests::One(x) => {
             out[p] = dest_word(x, next, colours);
-            out
         }
         Dests::Two(x, y) => {
             out[p] = dest_word(x, next, colours);
             let after = next + (count_static(x) as usize);
             out[p + 1] = dest_word(y, after, colours);
-            out
         }
     }
 }
 
 // Words in colours, each where it stood.
+#[inline(always)]
 fn recolour(words: &mut [u32], renaming: &Renaming, colours: &[u32])
     requires { renaming.now.statics ≤ length colours.now }
     ensures { words.new ≡ map (source_word renaming.now.regs colours.now) words.old }
@@ -63,16 +66,19 @@ fn recolour(words: &mut [u32], renaming: &Renaming, colours: &[u32])
     }
 }
 
-// A record in colours.
-fn rewrite(rec: &Record, renaming: &Renaming, colours: &[u32]) -> Record
-    requires { renaming.now.statics + 2 ≤ length colours.now }
-    ensures { result ≡ rewritten renaming.now.regs renaming.now.statics colours.now rec.now }
+// A record in colours, in place: words that are written singly and then copied on would be waited for.
+#[inline(always)]
+fn rewrite(kind: u32, rec: &Record, renaming: &Renaming, colours: &[u32], out: &mut [u32])
+    requires kind_is { kind ≡ word_at rec.now 0 }
+    requires colours_room { renaming.now.statics + 2 ≤ length colours.now }
+    requires out_room { length out.old ≡ 8 }
+    ensures { out.new ≡ rewritten renaming.now.regs renaming.now.statics colours.now rec.now }
 {
-    let s = shape_of(rec[0]);
+    let s = shape_of(kind);
     let from = s.regs + s.dsts;
-    let mut out = rewrite_dests(rec, renaming.statics, colours);
+    out.copy_from_slice(rec);
+    rewrite_dests(kind, rec, renaming.statics, colours, out);
     recolour(&mut out[from..from + s.srcs], renaming, colours);
-    out
 }
 
 // Whether nobody looks at a cell after the run.
@@ -97,22 +103,37 @@ fn drop_if(drop: bool, kind: Outcome) -> Outcome
     if drop { kind } else { Outcome::Kept }
 }
 
-// What becomes of a record in colours; `found` says that all its destinations were found.
-fn outcome_of(rec: &Record, found: bool, fixed: u64, set: &ReadSet<'_>) -> Outcome
-    requires { partner_fits rec.now ≡ true }
-    ensures { result ≡ outcome_of fixed (members_in set.now) found rec.now }
+// What becomes of a record, told before it is written: a Mov goes if its two words have one colour.
+#[inline(always)]
+fn outcome_of(
+    kind: u32,
+    rec: &Record,
+    renaming: &Renaming,
+    fixed: u64,
+    colours: &[u32],
+    ends: &[u32],
+    set: &ReadSet<'_>,
+) -> Outcome
+    requires kind_is { kind ≡ word_at rec.now 0 }
+    requires partner_fits { partner_fits rec.now ≡ true }
+    requires colours_room { renaming.now.statics + 2 ≤ length colours.now }
+    requires ends_room { renaming.now.statics + 2 ≤ length ends.now }
+    ensures { result ≡ outcome_in fixed (members_in set.now) renaming.now.regs renaming.now.statics colours.now ends.now rec.now }
 {
-    let kind = rec[0];
     match kind {
         NOP => Outcome::Nop,
-        LOAD | LOAD_COMPLEX => drop_if(found, Outcome::Load),
-        MOV => drop_if(rec[1] == rec[2], Outcome::Move),
+        LOAD | LOAD_COMPLEX => drop_if(was_found(kind, rec, renaming.statics, ends), Outcome::Load),
+        MOV => {
+            let to = dest_word(rec[1], renaming.statics, colours);
+            let from = deallocate(renaming, rec[2], colours);
+            drop_if(to == from, Outcome::Move)
+        }
         SAVE => {
-            let l = loc_of(rec);
+            let l = loc_of(kind, rec);
             drop_if(is_beyond(fixed, l) && !set.contains(l), Outcome::Save)
         }
         SAVE_COMPLEX => {
-            let l = loc_of(rec);
+            let l = loc_of(kind, rec);
             drop_if(
                 is_beyond(fixed, l) && !contains_either(l, set),
                 Outcome::Save,
@@ -131,21 +152,35 @@ fn unmark(ends: &mut [u32])
     }
 }
 
-// A record's words at the start of a slice.
-fn push(rec: &Record, out: &mut [u32])
-    requires { 8 ≤ length out.old }
-    ensures { out.new ≡ over rec.now out.old }
+// A record in colours at the start of a slice.
+#[inline(always)]
+fn push(kind: u32, rec: &Record, renaming: &Renaming, colours: &[u32], out: &mut [u32])
+    requires kind_is { kind ≡ word_at rec.now 0 }
+    requires colours_room { renaming.now.statics + 2 ≤ length colours.now }
+    requires out_room { 8 ≤ length out.old }
+    ensures { out.new ≡ over (rewritten renaming.now.regs renaming.now.statics colours.now rec.now) out.old }
 {
-    out[..8].copy_from_slice(rec);
+    rewrite(kind, rec, renaming, colours, &mut out[..8]);
 }
 
 // A record that is kept goes into the output's part from the next record on: the form that the rules name, of the slice that C lends.
-fn keep(outcome: Outcome, rec: &Record, at: usize, out: &mut [u32])
-    requires { at + 8 ≤ length out.old }
-    ensures { out.new ≡ put_if (is_kept outcome) at rec.now out.old }
+#[inline(always)]
+fn keep(
+    outcome: Outcome,
+    kind: u32,
+    rec: &Record,
+    renaming: &Renaming,
+    colours: &[u32],
+    at: usize,
+    out: &mut [u32],
+)
+    requires kind_is { kind ≡ word_at rec.now 0 }
+    requires colours_room { renaming.now.statics + 2 ≤ length colours.now }
+    requires out_room { at + 8 ≤ length out.old }
+    ensures { out.new ≡ put_if (is_kept outcome) at (rewritten renaming.now.regs renaming.now.statics colours.now rec.now) out.old }
 {
     match outcome {
-        Outcome::Kept => push(rec, &mut out[at..]),
+        Outcome::Kept => push(kind, rec, renaming, colours, &mut out[at..]),
         Outcome::Nop | Outcome::Load | Outcome::Move | Outcome::Save => {}
     }
 }
@@ -176,30 +211,79 @@ impl Tally {
     }
 }
 
-// One record: what it is rewritten to goes out, if it is kept, after the records that were.
-fn contract_record(
+// One turn of the walk: what the record is rewritten to goes out, if it is kept, after the records that were; then the registers after
+// it, and the ends of its statics without marks.
+#[inline(always)]
+fn contract_turn(
+    kind: u32,
     rec: &Record,
-    renaming: &Renaming,
+    renaming: &mut Renaming,
     fixed: u64,
     colours: &[u32],
-    ends: &[u32],
+    ends: &mut [u32],
     set: &ReadSet<'_>,
     tally: &mut Tally,
     out: &mut [u32],
 )
-    requires partner_fits { partner_fits rec.now ≡ true }
-    requires colours_room { renaming.now.statics + 2 ≤ length colours.now }
-    requires ends_room { renaming.now.statics + 2 ≤ length ends.now }
-    requires short { Short tally.old any }
-    requires records_in_bounds { tally.old.records * 8 + 8 ≤ length out.old }
-    ensures tally { tally.new ≡ tallied (outcome_in fixed (members_in set.now) renaming.now.regs renaming.now.statics colours.now ends.now rec.now) tally.old }
-    ensures out { out.new ≡ put_if (is_kept (outcome_in fixed (members_in set.now) renaming.now.regs renaming.now.statics colours.now ends.now rec.now)) (tally.old.records * 8) (rewritten renaming.now.regs renaming.now.statics colours.now rec.now) out.old }
+    requires kind_is { kind ≡ word_at rec.now 0 }
+    requires may_turn { MayTurn rec.now renaming.old (length colours.now) (length ends.old) tally.old (length out.old) }
+    ensures { Turned fixed (members_in set.now) colours.now rec.now renaming.old renaming.new ends.old ends.new tally.old tally.new out.old out.new }
 {
-    let found = was_found(rec, renaming.statics, ends);
-    let written = rewrite(rec, renaming, colours);
-    let outcome = outcome_of(&written, found, fixed, set);
-    keep(outcome, &written, (tally.records as usize) * 8, out);
+    let outcome = outcome_of(kind, rec, renaming, fixed, colours, ends, set);
+    keep(
+        outcome,
+        kind,
+        rec,
+        renaming,
+        colours,
+        (tally.records as usize) * 8,
+        out,
+    );
     tally.add(outcome);
+    let first = renaming.statics;
+    renaming.pass(kind, rec);
+    unmark(&mut ends[first..renaming.statics]);
+}
+
+// The turn of the record's kind: in each arm the kind is a number that is written down, and so are the places of its words, which
+// makes a body without jumps of each.
+fn contract_by_kind(
+    rec: &Record,
+    renaming: &mut Renaming,
+    fixed: u64,
+    colours: &[u32],
+    ends: &mut [u32],
+    set: &ReadSet<'_>,
+    tally: &mut Tally,
+    out: &mut [u32],
+)
+    requires { MayTurn rec.now renaming.old (length colours.now) (length ends.old) tally.old (length out.old) }
+    ensures { Turned fixed (members_in set.now) colours.now rec.now renaming.old renaming.new ends.old ends.new tally.old tally.new out.old out.new }
+{
+    match rec[0] {
+        0 => contract_turn(0, rec, renaming, fixed, colours, ends, set, tally, out),
+        1 => contract_turn(1, rec, renaming, fixed, colours, ends, set, tally, out),
+        2 => contract_turn(2, rec, renaming, fixed, colours, ends, set, tally, out),
+        3 => contract_turn(3, rec, renaming, fixed, colours, ends, set, tally, out),
+        4 => contract_turn(4, rec, renaming, fixed, colours, ends, set, tally, out),
+        5 => contract_turn(5, rec, renaming, fixed, colours, ends, set, tally, out),
+        6 => contract_turn(6, rec, renaming, fixed, colours, ends, set, tally, out),
+        7 => contract_turn(7, rec, renaming, fixed, colours, ends, set, tally, out),
+        8 => contract_turn(8, rec, renaming, fixed, colours, ends, set, tally, out),
+        9 => contract_turn(9, rec, renaming, fixed, colours, ends, set, tally, out),
+        10 => contract_turn(10, rec, renaming, fixed, colours, ends, set, tally, out),
+        11 => contract_turn(11, rec, renaming, fixed, colours, ends, set, tally, out),
+        12 => contract_turn(12, rec, renaming, fixed, colours, ends, set, tally, out),
+        13 => contract_turn(13, rec, renaming, fixed, colours, ends, set, tally, out),
+        14 => contract_turn(14, rec, renaming, fixed, colours, ends, set, tally, out),
+        15 => contract_turn(15, rec, renaming, fixed, colours, ends, set, tally, out),
+        16 => contract_turn(16, rec, renaming, fixed, colours, ends, set, tally, out),
+        17 => contract_turn(17, rec, renaming, fixed, colours, ends, set, tally, out),
+        18 => contract_turn(18, rec, renaming, fixed, colours, ends, set, tally, out),
+        19 => contract_turn(19, rec, renaming, fixed, colours, ends, set, tally, out),
+        20 => contract_turn(20, rec, renaming, fixed, colours, ends, set, tally, out),
+        kind => contract_turn(kind, rec, renaming, fixed, colours, ends, set, tally, out),
+    }
 }
 
 // The reduced list, from the colours, the marked ends and the read set; the ends lose their marks.
@@ -219,10 +303,16 @@ pub fn contract(
     let mut renaming = Renaming::new();
     let mut tally = Tally::default();
     for rec in records_of(list) {
-        contract_record(rec, &renaming, fixed, colours, ends, set, &mut tally, out);
-        let first = renaming.statics;
-        renaming.pass(rec);
-        unmark(&mut ends[first..renaming.statics]);
+        contract_by_kind(
+            rec,
+            &mut renaming,
+            fixed,
+            colours,
+            ends,
+            set,
+            &mut tally,
+            out,
+        );
     }
     tally
 }

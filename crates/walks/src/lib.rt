@@ -1,7 +1,8 @@
 // The walks over a list that passes, one after the other: `create` of crate lives, `color` of crate coloring, and `contract`.
 #![tactic(auto)]
 
-ghost use Rattle.std.specs.Prelude.{length};
+ghost use Rattle.std.specs.Prelude.{◌+◌, ◌<◌, ◌≤◌, [], ◌≡◌, length};
+ghost use Rattle.sets.specs.Members.{members_in};
 ghost use Rattle.passes.specs.Machine.{Passing};
 ghost use Rattle.walks.specs.Lent.{lent};
 ghost use Rattle.walks.specs.Walks.{Roomy, Reduces};
@@ -22,7 +23,83 @@ pub struct Counts {
     pub tally: Tally,
 }
 
-// The three walks over a list that passes; each renames the registers as it goes.
+// The three walks over a list that passes, with a set of no members; each renames the registers as it goes.
+fn walk(
+    list: &[u32],
+    table: &[u32],
+    settings: Settings,
+    out: &mut [u32],
+    colours: &mut [u32],
+    ends: &mut [u32],
+    read: &mut ReadSet<'_>,
+) -> Counts
+    requires passing { Passing settings list.now table.now }
+    requires roomy { Roomy (length list.now) (length table.now) (length out.old) (length colours.old) (length ends.old) (length read.old.words.now) }
+    requires empty { members_in read.old ≡ [] }
+    ensures same_reference { read.new.words.ghost_name ≡ read.old.words.ghost_name }
+    ensures reduces { Reduces settings list.now table.now (lent out.old colours.old ends.old read.old.words.now) (lent out.new colours.new ends.new read.new.words.now) result }
+{
+    create(list, ends);
+    let statics = color(list, table, settings, colours, ends, read);
+    let tally = contract::contract(list, settings, colours, ends, read, out);
+    Counts {
+        statics: statics as u32,
+        members: read.len() as u32,
+        tally,
+    }
+}
+
+// The walks, with an index of the read set that has so many heads, and so many links with them: two for each member.
+// Kept out of its caller's frame, or a short list would take the stack of a long one.
+#[inline(never)]
+fn reduce_in<const HEADS: usize, const LINKS: usize>(
+    list: &[u32],
+    table: &[u32],
+    settings: Settings,
+    out: &mut [u32],
+    colours: &mut [u32],
+    ends: &mut [u32],
+    set: &mut [u32],
+) -> Counts
+    requires passing { Passing settings list.now table.now }
+    requires roomy { Roomy (length list.now) (length table.now) (length out.old) (length colours.old) (length ends.old) (length set.old) }
+    requires heads { 0 < HEADS }
+    requires links { HEADS + length set.old ≤ LINKS }
+    requires few { LINKS ≤ 16777216 }
+    ensures { Reduces settings list.now table.now (lent out.old colours.old ends.old set.old) (lent out.new colours.new ends.new set.new) result }
+{
+    let mut low = [0; LINKS];
+    let mut high = [0; LINKS];
+    let mut read = ReadSet::new(set, HEADS, &mut low, &mut high);
+    walk(list, table, settings, out, colours, ends, &mut read)
+}
+
+// The walks, with an index for a set so long: that of a list of 512 records and as many pairs, of 4,096 with half as many, or of any.
+fn reduce_sized(
+    list: &[u32],
+    table: &[u32],
+    settings: Settings,
+    out: &mut [u32],
+    colours: &mut [u32],
+    ends: &mut [u32],
+    set: &mut [u32],
+) -> Counts
+    requires passing { Passing settings list.now table.now }
+    requires roomy { Roomy (length list.now) (length table.now) (length out.old) (length colours.old) (length ends.old) (length set.old) }
+    requires few { length set.old ≤ 327680 }
+    ensures { Reduces settings list.now table.now (lent out.old colours.old ends.old set.old) (lent out.new colours.new ends.new set.new) result }
+{
+    let words = set.len();
+    if words <= 3_072 {
+        reduce_in::<1_024, 4_096>(list, table, settings, out, colours, ends, set)
+    } else if words <= 20_480 {
+        reduce_in::<4_096, 24_576>(list, table, settings, out, colours, ends, set)
+    } else {
+        reduce_in::<32_768, 360_448>(list, table, settings, out, colours, ends, set)
+    }
+}
+
+// The walks, with the read set in the part of its slice that the list's members may need.
 pub fn reduce(
     list: &[u32],
     table: &[u32],
@@ -36,13 +113,6 @@ pub fn reduce(
     requires roomy { Roomy (length list.now) (length table.now) (length out.old) (length colours.old) (length ends.old) (length set.old) }
     ensures { Reduces settings list.now table.now (lent out.old colours.old ends.old set.old) (lent out.new colours.new ends.new set.new) result }
 {
-    create(list, ends);
-    let mut read = ReadSet::new(set);
-    let statics = color(list, table, settings, colours, ends, &mut read);
-    let tally = contract::contract(list, settings, colours, ends, &read, out);
-    Counts {
-        statics: statics as u32,
-        members: read.len() as u32,
-        tally,
-    }
+    let words = list.len() / 8 * 4 + table.len();
+    reduce_sized(list, table, settings, out, colours, ends, &mut set[..words])
 }

@@ -19,36 +19,28 @@ leb-less n m k h = go (leb n (m - k)) refl
 
 -- the definition, the tests that were passed being true
 
-module _ (list table out colours ends set : ℕ) (h : list ≤ out) where
-  past-out : room_for list table out colours ends set ≡ (leb (list / 8 * 2) colours && (leb (list / 8 * 2) ends && leb (list / 8 * 4 + table) set))
+module _ (list table out statics set : ℕ) (h : list ≤ out) where
+  past-out : room_for list table out statics set ≡ (leb (list / 8 * 2) statics && leb (list / 8 * 4 + table) set)
   unfolding room_for
   past-out = rw (le-leb list out h)
 
-  past-colours : list / 8 * 2 ≤ colours → room_for list table out colours ends set ≡ (leb (list / 8 * 2) ends && leb (list / 8 * 4 + table) set)
-  past-colours k = past-out ∙ rw (le-leb (list / 8 * 2) colours k)
-
-  past-ends : list / 8 * 2 ≤ colours → list / 8 * 2 ≤ ends → room_for list table out colours ends set ≡ leb (list / 8 * 4 + table) set
-  past-ends k l = past-colours k ∙ rw (le-leb (list / 8 * 2) ends l)
+  past-statics : list / 8 * 2 ≤ statics → room_for list table out statics set ≡ leb (list / 8 * 4 + table) set
+  past-statics k = past-out ∙ rw (le-leb (list / 8 * 2) statics k)
 
 pub returns-then-out-list : goal.returns-then-out-list
 unfolding room_for
 returns-then-out-list c = rw (lt-leb c.args.list c.args.out (omega arith))
 
-pub returns-then-colours-count : goal.returns-then-colours-count
-returns-then-colours-count c =
-    rw (past-out c.args.list c.args.table c.args.out c.args.colours c.args.ends c.args.set (omega arith), lt-leb (c.args.list / 8 * 2) c.args.colours (omega arith))
-
-pub returns-then-ends-count : goal.returns-then-ends-count
-returns-then-ends-count c =
-    let e = past-colours c.args.list c.args.table c.args.out c.args.colours c.args.ends c.args.set (omega arith) (omega arith) in
-    rw (e, lt-leb (c.args.list / 8 * 2) c.args.ends (omega arith))
+pub returns-then-statics-count : goal.returns-then-statics-count
+returns-then-statics-count c =
+    rw (past-out c.args.list c.args.table c.args.out c.args.statics c.args.set (omega arith), lt-leb (c.args.list / 8 * 2) c.args.statics (omega arith))
 
 pub returns-then-set-table : goal.returns-then-set-table
 returns-then-set-table c =
-    let e = past-ends c.args.list c.args.table c.args.out c.args.colours c.args.ends c.args.set (omega arith) (omega arith) (omega arith) in
+    let e = past-statics c.args.list c.args.table c.args.out c.args.statics c.args.set (omega arith) (omega arith) in
     rw (e, lt-leb (c.args.list / 8 * 4 + c.args.table) c.args.set (omega arith))
 
 pub returns : goal.returns
 returns c =
-    let e = past-ends c.args.list c.args.table c.args.out c.args.colours c.args.ends c.args.set (omega arith) (omega arith) (omega arith) in
+    let e = past-statics c.args.list c.args.table c.args.out c.args.statics c.args.set (omega arith) (omega arith) in
     rw e (leb-less (c.args.list / 8 * 4) c.args.set c.args.table (omega arith))

@@ -40,76 +40,31 @@ loop-i-init c =
       },
     )
 
--- ---- one turn: the record, and then the calls in their order
+-- ---- one turn
 
 pub overflow_cast-now : goal.overflow_cast-now
 overflow_cast-now c =
     let here = c.records_of-rec-items.ensures.each c.loop-i.i c.loop-i-test.true in
     omega (arith, here.0, words_few c.loop-i.invariant.1 here.0)
 
-pub expire_sources-requires : goal.expire_sources-requires
-expire_sources-requires c =
+pub color_by_kind-requires : goal.color_by_kind-requires
+color_by_kind-requires c =
     let here = c.records_of-rec-items.ensures.each c.loop-i.i c.loop-i-test.true in
-    let inv = c.loop-i.invariant.1 in
     record {
-      known_in = omega (arith, colours_two inv here.0);
-      coloured = coloured_most inv here.0 here.1;
+      settings = c.args.settings;
+      list = c.args.list.now;
+      colours = c.args.colours.now;
+      ends = c.args.ends.now;
+      before = c.args.set.now;
+      coloring = c.loop-i.invariant.1;
+      within = here.0;
+      here = here.1;
     }
-
-pub color_record-requires : goal.color_record-requires
-color_record-requires c =
-    let here = c.records_of-rec-items.ensures.each c.loop-i.i c.loop-i-test.true in
-    let inv = c.loop-i.invariant.1 in
-    let at_record = expire_gives inv here.0 here.1 c.expire_sources.ensures in
-    rw (at_record.allocs.count)
-    record {
-      partner_fits = record_partner inv here.0 here.1;
-      space_bound = record_space inv here.0 here.1;
-      coloured = coloured inv here.0 here.1;
-      masked = lent_masked at_record;
-      colours_room = colours_two inv here.0;
-      ends_room = ends_two inv here.0;
-      ready = color_ready inv here.0 here.1 at_record;
-    }
-
-pub was_found-found-requires : goal.was_found-found-requires
-was_found-found-requires c =
-    let here = c.records_of-rec-items.ensures.each c.loop-i.i c.loop-i-test.true in
-    omega (arith, ends_two c.loop-i.invariant.1 here.0, c.color_record.auto.ends)
-
-pub read_record-requires : goal.read_record-requires
-read_record-requires c =
-    let here = c.records_of-rec-items.ensures.each c.loop-i.i c.loop-i-test.true in
-    let inv = c.loop-i.invariant.1 in
-    let at_record = expire_gives inv here.0 here.1 c.expire_sources.ensures in
-    let after = color_gives inv here.0 here.1 at_record (rw at_record.allocs.count at c.color_record.ensures) in
-    record {
-      fields_fit = record_fields inv here.0 here.1;
-      partner_fits = record_partner inv here.0 here.1;
-      found_in_bounds = read_room inv here.0 here.1 (found_gives inv here.0 here.1 c.was_found-found.ensures after);
-    }
-
-pub pass-requires : goal.pass-requires
-pass-requires c =
-    let here = c.records_of-rec-items.ensures.each c.loop-i.i c.loop-i-test.true in
-    let inv = c.loop-i.invariant.1 in
-    omega (arith, statics_few inv here.0, words_few inv here.0)
 
 pub loop-i-preserved : goal.loop-i-preserved
 loop-i-preserved c =
     let here = c.records_of-rec-items.ensures.each c.loop-i.i c.loop-i-test.true in
-    let inv = c.loop-i.invariant.1 in
-    let at_record = expire_gives inv here.0 here.1 c.expire_sources.ensures in
-    let after = color_gives inv here.0 here.1 at_record (rw at_record.allocs.count at c.color_record.ensures) in
-    let back : c.loop-i.i + 1 - 1 ≡ c.loop-i.i = omega arith in (
-      omega (arith, here.0),
-      record {
-        called = inv.called;
-        walked = walked_next inv.walked here.1 c.pass.ensures.regs c.pass.ensures.statics;
-        holds = rw back after;
-        set_holds = read_gives inv here.0 here.1 (found_gives inv here.0 here.1 c.was_found-found.ensures after) c.read_record.ensures;
-      },
-    )
+    (omega (arith, here.0), c.color_by_kind.ensures c.args.settings c.args.list.now c.args.colours.now c.args.ends.now c.args.set.now c.loop-i.invariant.1 here.0 here.1)
 
 -- ---- after the last turn
 

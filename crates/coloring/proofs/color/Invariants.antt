@@ -2,7 +2,7 @@
 -- By what `Colouring` says of a record.
 use Prim.Native.Nat.{◌≤◌}
 use Rattle.mir.specs.Records.{records}
-use Rattle.coloring.proofs.Invariant.{state, Colouring}
+use Rattle.coloring.specs.Walk.{state, Colouring}
 use Rattle.coloring.proofs.color.Given as goal
 
 abbrev pub invariant-loop-i : goal.invariant-loop-i

@@ -1,48 +1,21 @@
--- `coloring::color_record` meets its contract: sources, what the destinations are wanted with, destinations, action.
-use mathlib.Core.Path.{ap}
-use native.Mathlib.Omega.{arith}
-use Rattle.mir.proofs.Shapes.{is_complex}
-use Rattle.passes.specs.Color.{source_word}
+-- `coloring::color_record` meets its contract: a record that wants no location changes the colours by its destinations alone.
+-- Both of those actions compute so.
+use mathlib.Core.Logic.{◌⊎◌, ⊎_elim}
+use mathlib.Core.Path.{◌≡◌}
+use Rattle.mir.specs.declared.shape.Action.TheVariants.{Other, LoadArgs}
+use Rattle.mir.proofs.Shapes.{action_here}
 use Rattle.coloring.specs.Coloring.{record_step}
-use Rattle.coloring.proofs.Dests.{standing}
-use Rattle.coloring.proofs.Sources.{partner_below, used_coloured}
 use Rattle.coloring.proofs.color_record.Goals as goal
 
-pub want_x-hx-requires : goal.want_x-hx-requires
-want_x-hx-requires c =
-    let used = used_coloured c.args.rec.now (omega arith) (source_word c.args.renaming.now.regs c.args.colours.now) c.args.allocs.now.count 0 c.requires.coloured in
-    rw (c.shape_of-s.ensures, c.loc_of-l.ensures, c.source_at-x.ensures)
-    (record { space_lt_any = c.requires.space_bound; x_lt_max_regs = λ u l. omega (arith, used u l, c.requires.masked.few) })
-
-pub want_y-hy-requires : goal.want_y-hy-requires
-want_y-hy-requires c =
-    rw (c.shape_of-s.ensures, c.loc_of-l.ensures)
-    (record { space_lt_any = c.requires.space_bound; index_lt_any = λ e. partner_below c.args.rec.now (ap is_complex e) c.requires.partner_fits })
-
--- what the destinations are wanted with is what the definition says
-pub color_dests-requires : goal.color_dests-requires
-color_dests-requires c =
-    record {
-      masked = c.requires.masked;
-      colours_room = c.requires.colours_room;
-      ends_room = c.requires.ends_room;
-      ready = rw (c.want_x-hx.ensures c.args.allocs.now.count c.args.i _ (standing c.requires.masked), c.want_y-hy.ensures, c.shape_of-s.ensures, c.loc_of-l.ensures, c.source_at-x.ensures) c.requires.ready;
-    }
-
-pub update-requires : goal.update-requires
-update-requires c =
-    let f = source_word c.args.renaming.now.regs c.args.colours.now in
-    rw (c.color_dests.ensures.allocs.count, c.shape_of-s.ensures, c.loc_of-l.ensures, c.source_at-x.ensures, c.source_at-y.ensures)
-    (record {
-      space_lt_any = c.requires.space_bound;
-      index_lt_any = λ e. partner_below c.args.rec.now (ap is_complex e) c.requires.partner_fits;
-      x_lt_count = used_coloured c.args.rec.now (omega arith) f c.args.allocs.now.count 0 c.requires.coloured;
-      y_lt_count = used_coloured c.args.rec.now (omega arith) f c.args.allocs.now.count 1 c.requires.coloured;
-    })
-
-pub returns : goal.returns
+pub returns-in-Other : goal.returns-in-Other
 unfolding record_step
-returns c =
-    let given = rw (c.want_x-hx.ensures c.args.allocs.now.count c.args.i _ (standing c.requires.masked), c.want_y-hy.ensures, c.shape_of-s.ensures, c.loc_of-l.ensures, c.source_at-x.ensures) at c.color_dests.ensures in
-    let done = rw (c.shape_of-s.ensures, c.loc_of-l.ensures, c.source_at-x.ensures, c.source_at-y.ensures) at (c.update.ensures _ c.args.i _ given.allocs) in
-    record { allocs = done; colours = given.colours; ends = given.ends }
+returns-in-Other c =
+    let done = c.color_dests.ensures in
+    let rec = c.args.rec.now in
+    let s = c.shape_of-s.result in
+    let is = c.shape_of-s.ensures in
+    let k = c.requires.kind_is in
+    ⊎_elim
+    (λ (e : s.action ≡ Other). rw (action_here rec is k e) (record { allocs = done.allocs; colours = done.colours; ends = done.ends }))
+    (λ (e : s.action ≡ LoadArgs). rw (action_here rec is k e) (record { allocs = done.allocs; colours = done.colours; ends = done.ends }))
+    c.in-Other.is

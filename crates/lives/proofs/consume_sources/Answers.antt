@@ -12,7 +12,7 @@ unfolding consumed
 loop-w-init c = refl
 
 pub consume-requires : goal.consume-requires
-consume-requires c = rw c.loop-w.auto.ends c.requires
+consume-requires c = rw c.loop-w.auto.ends c.requires.statics_fit
 
 pub loop-w-preserved : goal.loop-w-preserved
 loop-w-preserved c =

@@ -2,7 +2,7 @@
 -- Beside the renaming that every walk keeps, by the law `ends_next`.
 use Prim.Native.Nat.{◌-◌}
 use mathlib.Core.List.{[]}
-use mathlib.Core.Path.{◌≡◌, refl}
+use mathlib.Core.Path.{◌≡◌, refl, ap, ◌∙◌}
 use native.Mathlib.Omega.{arith}
 use lib.ListN.{length, get_or, replicate, take, drop}
 use Rattle.mir.specs.Records.{records}
@@ -21,50 +21,25 @@ loop-i-init c = (search rules, walked_first _ c.new-renaming.ensures.regs c.new-
 
 -- ---- one turn: the record, and then the calls in their order
 
-pub overflow_cast-end : goal.overflow_cast-end
-overflow_cast-end c =
+pub overflow_cast-i : goal.overflow_cast-i
+overflow_cast-i c =
     let here = c.records_of-rec-items.ensures.each c.loop-i.i c.loop-i-test.true in
     omega (arith, few_words _ c.requires.passes c.loop-i.i here.0)
 
-pub consume_sources-requires : goal.consume_sources-requires
-consume_sources-requires c =
+pub create_by_kind-requires : goal.create_by_kind-requires
+create_by_kind-requires c =
     let here = c.records_of-rec-items.ensures.each c.loop-i.i c.loop-i-test.true in
-    omega (arith, turn _ c.requires.passes c.loop-i.i here.0 c.loop-i.invariant.1, c.requires.ends_room)
-
-pub pass-requires : goal.pass-requires
-pass-requires c =
-    let here = c.records_of-rec-items.ensures.each c.loop-i.i c.loop-i-test.true in
-    omega (arith, turn _ c.requires.passes c.loop-i.i here.0 c.loop-i.invariant.1)
-
-pub offset_bounds-ends-first : goal.offset_bounds-ends-first
-offset_bounds-ends-first c =
-    let here = c.records_of-rec-items.ensures.each c.loop-i.i c.loop-i-test.true in
-    omega (arith, turn _ c.requires.passes c.loop-i.i here.0 c.loop-i.invariant.1)
-
-pub slice_bounds-fill-end : goal.slice_bounds-fill-end
-slice_bounds-fill-end c =
-    let here = c.records_of-rec-items.ensures.each c.loop-i.i c.loop-i-test.true in
-    omega (
-      arith,
-      turn _ c.requires.passes c.loop-i.i here.0 c.loop-i.invariant.1,
-      c.pass.ensures.statics,
-      gens_two (get_or c.records_of-rec-items.result.now c.loop-i.i []),
-      c.requires.ends_room,
-      c.consume_sources.auto.ends,
-    )
+    let few = turn _ c.requires.passes c.loop-i.i here.0 c.loop-i.invariant.1 in
+    record { few = omega (arith, few, c.requires.ends_room, c.loop-i.auto.ends); next_fits = omega (arith, few) }
 
 pub loop-i-preserved : goal.loop-i-preserved
 loop-i-preserved c =
     let here = c.records_of-rec-items.ensures.each c.loop-i.i c.loop-i-test.true in
     let w = c.loop-i.invariant.1 in
-    let first = c.loop-i.renaming.statics in
-    let read = c.consume_sources.new.ends in
-    let made : c.pass.new.self.statics - first ≡ gens (dests (get_or c.records_of-rec-items.result.now c.loop-i.i [])) = omega (arith, c.pass.ensures.statics) in
-    let long : length (take (c.pass.new.self.statics - first) (drop first read)) ≡ c.pass.new.self.statics - first = search rules in
-    let filled : c.fill.new.self ≡ replicate (c.pass.new.self.statics - first) c.loop-i.i = rw long at (c.fill.ensures.after (λ y e. e)) in (
+    let ended = c.create_by_kind.ensures in (
       search rules,
-      walked_next w here.1 c.pass.ensures.regs c.pass.ensures.statics,
-      rw (filled, c.consume_sources.ensures, c.loop-i.invariant.2) (ends_next w here.1 made c.args.ends.now),
+      walked_next w here.1 ended.regs_are ended.statics_are,
+      ended.ends_are ∙ rw (c.loop-i.invariant.2) (ends_next w here.1 refl c.args.ends.now),
     )
 
 -- ---- after the last turn

@@ -1,4 +1,4 @@
--- `rudzaviks::rudzaviks_optimize` meets its contract: it answers as `optimize` does, or refuses where the counts have no room.
+-- `rudzaviks::rudzaviks_optimize` meets its contract: it answers as `optimize_words` does, or refuses where the counts have no room.
 -- By the promise of either case.
 use Prim.Native.Nat.{◌≤◌}
 use mathlib.Core.Path.{refl}
@@ -6,7 +6,7 @@ use lib.ListN.{length}
 use Rattle.mir.specs.Answers.{verdict_in}
 use Rattle.mir.specs.declared.config.Settings.{Settings}
 use Rattle.walks.specs.Lent.{Lent, lent}
-use Rattle.allocator.specs.Optimize.{Optimized}
+use Rattle.allocator.specs.Optimize.{OptimizedWords}
 use Rattle.file.specs.File.{settings_of}
 use Rattle.rudzaviks.proofs.Optimize.{entry_answered, entry_short}
 use Rattle.rudzaviks.proofs.rudzaviks_optimize.Goals as goal
@@ -24,9 +24,9 @@ returns-in-Ok c =
     let held : Lent =
     lent c.args.out.now c.args.colours.now c.args.ends.now c.args.set.now in
     let now_held : Lent =
-    lent c.optimize.new.out c.optimize.new.colours c.optimize.new.ends c.optimize.new.set in
-    let promised : Optimized settings c.args.list.now c.args.table.now held now_held c.optimize.result =
-    rw c.settings_of-settings.ensures at c.optimize.ensures in
+    lent c.optimize_words.new.out c.optimize_words.new.colours c.optimize_words.new.ends c.optimize_words.new.set in
+    let promised : OptimizedWords settings c.args.list.now c.args.table.now held now_held c.optimize_words.result =
+    rw c.settings_of-settings.ensures at c.optimize_words.ensures in
     let room : 7 ≤ length c.args.counts.now =
     c.if-counts-lt7.false in
     rw c.from.ensures (entry_answered room promised c.in-Ok.is c.write_counts.ensures)
@@ -39,9 +39,9 @@ returns-in-Err c =
     let held : Lent =
     lent c.args.out.now c.args.colours.now c.args.ends.now c.args.set.now in
     let now_held : Lent =
-    lent c.optimize.new.out c.optimize.new.colours c.optimize.new.ends c.optimize.new.set in
-    let promised : Optimized settings c.args.list.now c.args.table.now held now_held c.optimize.result =
-    rw c.settings_of-settings.ensures at c.optimize.ensures in
+    lent c.optimize_words.new.out c.optimize_words.new.colours c.optimize_words.new.ends c.optimize_words.new.set in
+    let promised : OptimizedWords settings c.args.list.now c.args.table.now held now_held c.optimize_words.result =
+    rw c.settings_of-settings.ensures at c.optimize_words.ensures in
     let room : 7 ≤ length c.args.counts.now =
     c.if-counts-lt7.false in
     rw c.refusal_word.ensures (entry_answered room promised c.in-Err.is refl)

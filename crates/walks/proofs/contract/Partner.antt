@@ -3,19 +3,21 @@
 use Rattle.std.specs.Prelude.{Option}
 use Prim.Native.Nat.{ℕ, suc, ◌+◌, ◌<◌, ◌≤◌}
 use mathlib.Core.Bool.{Bool, true, false, cond, ◌&&◌}
-use mathlib.Core.List.{List, [], ◌∷◌, ◌++◌, append_assoc}
-use mathlib.Core.Path.{◌≡◌, refl, sym, ap, ◌∙◌}
+use mathlib.Core.List.{List, [], ◌∷◌, ◌++◌, map, append_assoc}
+use mathlib.Core.Logic.{◌⊎◌, ⊎_elim}
+use mathlib.Core.Path.{◌≡◌, refl, sym, ap, subst, ◌∙◌}
 use native.Mathlib.Decide.{dec_lt}
 use native.Mathlib.Omega.{arith}
 use lib.Dec.{T, leb, ltb}
-use lib.ListN.{length, get_or, take, drop, length-append, length-map}
+use lib.ListN.{length, get_or, take, drop, length-append, length-map, length-take, get_or-append}
+use lib.Seq.{get_or-append-add}
 use borrow.Author.Tests.{leb-true}
 use Rattle.mir.specs.Questions.{partner_fits}
-use Rattle.mir.specs.Records.{word_at}
+use Rattle.mir.specs.Records.{is_gen, word_at}
 use Rattle.mir.specs.Renaming.{one}
 use Rattle.mir.specs.Shapes.{any, shape_of, shape_for, dests, sources}
-use Rattle.mir.proofs.Shapes.{truth, each_from, by_kind, regs_in_record, regs_after_kind}
-use Rattle.passes.specs.Color.{source_word}
+use Rattle.mir.proofs.Shapes.{truth, each_from, by_kind, regs_in_record, regs_after_kind, dests_are, sources_are}
+use Rattle.passes.specs.Color.{loc_of, source_word}
 use Rattle.theorems.proofs.Lengths.{dests_length, sources_length}
 use Rattle.theorems.proofs.Reduced.{splice_before, splice_after}
 use Rattle.coloring.specs.Coloring.{source_words}
@@ -72,11 +74,42 @@ module _ (regs : List (Option ℕ)) (n : ℕ) (cs rec : List ℕ) (len : length 
       go (yes h) = splice_before rec ws r a room mid 0 h
       go (no h) = splice_after rec ws r a room mid 0 (omega (arith, h, regs_after_kind (word_at rec 0)))
 
-  pub written_partner : partner_fits rec ≡ true → partner_fits (rewritten regs n cs rec) ≡ true
-  unfolding partner_fits
-  written_partner h = rw written_kind (go (leb 7 (word_at rec 0) && leb (word_at rec 0) 8) refl h)
+  -- the words after the registers are as they were
+  written_after : (p : ℕ) → r + a ≤ p → word_at (rewritten regs n cs rec) p ≡ word_at rec p
+  written_after p h = ap (λ l. word_at l p) spliced ∙ splice_after rec ws r a room mid p h
+
+  pub written_loc : r + a ≤ (shape_for rec).loc → loc_of (rewritten regs n cs rec) ≡ loc_of rec
+  written_loc h =
+      rw (written_kind, written_after (shape_for rec).loc h, written_after ((shape_for rec).loc + 1) (omega (arith, h))) refl
+
+  -- what is saved goes where it went
+  pub save_loc : (word_at rec 0 ≡ 6) ⊎ (word_at rec 0 ≡ 8) → loc_of (rewritten regs n cs rec) ≡ loc_of rec
+  unfolding shape_of
+  save_loc h =
+      written_loc (⊎_elim (λ (e : word_at rec 0 ≡ 6). subst Room (sym e) (omega arith)) (λ (e : word_at rec 0 ≡ 8). subst Room (sym e) (omega arith)) h)
     where
-      go : (b : Bool) → (leb 7 (word_at rec 0) && leb (word_at rec 0) 8) ≡ b → cond b (ltb (word_at rec 4) any) true ≡ true
-          → cond b (ltb (word_at (rewritten regs n cs rec) 4) any) true ≡ true
-      go true e k = ap (λ l. ltb (word_at l 4) any) spliced ∙ (ap (λ v. ltb v any) (splice_after rec ws r a room mid 4 (few_registers_lem (word_at rec 0) e)) ∙ k)
-      go false e k = refl
+      Room : ℕ → Type 0
+      Room k = (shape_of k).regs + ((shape_of k).dsts + (shape_of k).srcs) ≤ (shape_of k).loc
+
+  -- the register words are the words in colours
+  written_at : (j : ℕ) → j < a → word_at (rewritten regs n cs rec) (r + j) ≡ get_or ws j 0
+  written_at j h =
+      let head : length (take r rec) ≡ r = omega (arith, length-take r rec, room) in
+      ap (λ l. word_at l (r + j)) spliced
+      ∙ (ap (λ k. get_or (take r rec ++ (ws ++ drop (r + a) rec)) (k + j) 0) (sym head)
+      ∙ (get_or-append-add (take r rec) (ws ++ drop (r + a) rec) j 0 ∙ get_or-append ws (drop (r + a) rec) 0 j (omega (arith, mid, h))))
+
+  -- those of a Mov
+  pub written_mov : word_at rec 0 ≡ 4
+      → (word_at (rewritten regs n cs rec) 1 ≡ cond (is_gen (word_at rec 1)) (get_or cs n 0) (word_at rec 1))
+      × (word_at (rewritten regs n cs rec) 2 ≡ source_word regs cs (word_at rec 2))
+  unfolding shape_of dest_words
+  written_mov e =
+      let d : dests rec ≡ word_at rec 1 ∷ [] = rw e at (dests_are rec (shape_for rec) refl len) in
+      let s : sources rec ≡ word_at rec 2 ∷ [] = rw e at (sources_are rec (shape_for rec) refl len) in
+      let both =
+      ap (λ l. dest_words l n cs ++ source_words regs cs rec) d ∙ ap (λ l. dest_words (word_at rec 1 ∷ []) n cs ++ map (source_word regs cs) l) s in
+      let two : 1 < a = rw e (omega arith) in
+      let x = subst (λ k. word_at (rewritten regs n cs rec) ((shape_of k).regs + 0) ≡ get_or ws 0 0) e (written_at 0 (omega (arith, two))) in
+      let y = subst (λ k. word_at (rewritten regs n cs rec) ((shape_of k).regs + 1) ≡ get_or ws 1 0) e (written_at 1 two) in
+      (x ∙ ap (λ l. get_or l 0 0) both, y ∙ ap (λ l. get_or l 1 0) both)

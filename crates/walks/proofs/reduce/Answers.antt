@@ -1,56 +1,21 @@
--- `walks::reduce` meets its contract: the walks one after the other.
--- What each walk leaves is what the next asks for.
-use Rattle.std.proofs.Common.{ap, ◌∙◌, arith, length, rules}
-use Rattle.passes.specs.Create.{ends_of}
-use Rattle.walks.proofs.Walks.{starts, colored, counts_are, few_colours, few_in_set, ends_last}
+-- `walks::reduce` meets its contract: the part of the slice suffices, and what is written over the part is written over the whole.
+use Rattle.std.proofs.Common.{arith, length-take, ℕ}
+use Rattle.lives.proofs.Registers.{passing_list}
+use Rattle.walks.proofs.Walks.{over_begin}
 use Rattle.walks.proofs.reduce.Goals as goal
 
-pub create-requires : goal.create-requires
-create-requires c = record { passes = (c.args.settings, c.args.table.now, c.requires.passing); ends_room = c.requires.roomy.for_ends }
-
-pub color-statics-requires : goal.color-statics-requires
-color-statics-requires c =
-    record {
-      empty = c.new-read.ensures.empty;
-      passing = c.requires.passing;
-      colours_room = c.requires.roomy.for_colours;
-      ends_room = omega (arith, c.requires.roomy.for_ends, c.create.auto.ends);
-      table_in_bounds = rw c.new-read.ensures.words c.requires.roomy.for_set;
-      ends_value = starts (ends_of c.args.list.now) c.args.ends.now c.create.ensures;
-    }
-
-pub contract-tally-requires : goal.contract-tally-requires
-contract-tally-requires c =
-    let r = c.requires.roomy in
-    let left = c.color-statics.ensures in
-    record {
-      colored = (
-        c.args.table.now,
-        colored c.args.settings c.args.list.now c.args.table.now c.requires.passing c.args.colours.now c.create.new.ends
-            (omega (arith, r.for_colours, c.color-statics.auto.colours)) (omega (arith, r.for_ends, c.color-statics.auto.ends, c.create.auto.ends)) left.colours left.ends left.set.members,
-      );
-      out_room = r.for_out;
-    }
-
-pub overflow_cast-result : goal.overflow_cast-result
-overflow_cast-result c = rw c.color-statics.ensures.statics (omega (arith, few_colours c.args.settings c.args.list.now c.args.table.now c.requires.passing))
-
-pub overflow_cast-result-2 : goal.overflow_cast-result-2
-overflow_cast-result-2 c = rw (c.len.ensures, c.color-statics.ensures.set.members) (omega (arith, few_in_set c.args.settings c.args.list.now c.args.table.now c.requires.passing))
+pub reduce_sized-requires-clause-few : goal.reduce_sized-requires-clause-few
+reduce_sized-requires-clause-few c =
+    let p = passing_list c.args.settings c.args.list.now c.args.table.now c.requires.passing in
+    omega (arith, p.sized.small, p.sized.few, length-take {A = ℕ})
 
 pub returns : goal.returns
 returns c =
-    let s = c.args.settings in
-    let list = c.args.list.now in
-    let table = c.args.table.now in
-    let r = c.requires.roomy in
-    let left = c.color-statics.ensures in
-    let q = c.contract-tally.ensures table (colored s list table c.requires.passing c.args.colours.now c.create.new.ends
-    (omega (arith, r.for_colours, c.color-statics.auto.colours)) (omega (arith, r.for_ends, c.color-statics.auto.ends, c.create.auto.ends)) left.colours left.ends left.set.members) in
+    let q = c.reduce_sized.ensures in
     record {
-      counts = counts_are s list table c.requires.passing c.contract-tally.result c.color-statics.result c.len.result q left.statics (c.len.ensures ∙ ap length left.set.members);
-      out = q.out_left;
-      colours = left.colours;
-      ends = ends_last s list table c.requires.passing c.args.ends.now c.create.new.ends c.create.ensures left.ends q.ends_left;
-      set = search rules;
+      counts = q.counts;
+      out = q.out;
+      colours = q.colours;
+      ends = q.ends;
+      set = over_begin _ c.args.set.now _ q.set c.reduce_sized.auto.set;
     }

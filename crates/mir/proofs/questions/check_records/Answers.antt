@@ -7,7 +7,7 @@ use mathlib.Core.Path.{◌≡◌, refl, sym, ap, ◌∙◌}
 use native.Mathlib.Numerals.{add-one}
 use native.Mathlib.Omega.{arith}
 use lib.Dec.{eqb}
-use Rattle.mir.specs.Answers.{no_in}
+use Rattle.mir.specs.Answers.{number_of}
 use Rattle.mir.specs.Branches.{past_to}
 use Rattle.mir.specs.Records.{word_at}
 use Rattle.mir.specs.Shapes.{branch_if}
@@ -30,16 +30,16 @@ unfolding record_refusal
 returns-in-Err c =
     let here = c.records_of-rec-items.ensures.each c.loop-i.i c.loop-i-test.true in
     let w = c.loop-i.invariant.1 in
-    let by_is : no_in c.check_record.result ≡ record_by c.args.table.now c.args.count_regs c.args.list.now c.loop-i.i =
-    rw (← here.1, ← w.regs_are, ← c.loop-i.invariant.2) c.check_record.ensures in
-    rw c.of_record.ensures
-    (unrefused_stops c.loop-i.invariant.0 here.0 (sym (ap no_in c.in-Err.is) ∙ by_is) (numbered c.in-Err.question))
+    let no = rw c.in-Err.is at c.ask_by_kind.ensures in
+    let by_is : number_of c.in-Err.question ≡ record_by c.args.table.now c.args.count_regs c.args.list.now c.loop-i.i =
+    rw (← here.1, ← w.regs_are, ← c.loop-i.invariant.2) no in
+    rw c.of_record.ensures (unrefused_stops c.loop-i.invariant.0 here.0 by_is (numbered c.in-Err.question))
 
 next_past : {r q : List ℕ} {a b k l : ℕ} → r ≡ q → a ≡ k → b ≡ l → cond (eqb (word_at r 0) branch_if) a b ≡ cond (eqb (word_at q 0) branch_if) k l
 next_past h e f = rw (h, e, f)
 
-pub pass-requires : goal.pass-requires
-pass-requires c = omega (arith, well_sized_lem _ _ c.requires.table_value, statics_two c.args.list.now c.loop-i.i, c.loop-i.invariant.1.statics_are)
+pub ask_by_kind-requires : goal.ask_by_kind-requires
+ask_by_kind-requires c = omega (arith, well_sized_lem _ _ c.requires.table_value, statics_two c.args.list.now c.loop-i.i, c.loop-i.invariant.1.statics_are)
 
 pub loop-i-preserved : goal.loop-i-preserved
 unfolding past_to
@@ -47,12 +47,13 @@ loop-i-preserved c =
     let here = c.records_of-rec-items.ensures.each c.loop-i.i c.loop-i-test.true in
     let inv = c.loop-i.invariant in
     let w = inv.1 in
+    let passed = rw c.in-Ok.is at c.ask_by_kind.ensures in
     -- what the record is refused by is the definition's number for it
-    let by_is : no_in c.check_record.result ≡ record_by c.args.table.now c.args.count_regs c.args.list.now c.loop-i.i =
-    rw (← here.1, ← w.regs_are, ← inv.2) c.check_record.ensures in (
-      unrefused_more inv.0 here.0 by_is (ap no_in c.in_default.is),
-      walked_next w here.1 c.pass.ensures.regs c.pass.ensures.statics,
-      rw add-one (c.past_after-past.ensures ∙ next_past here.1 w.statics_are inv.2),
+    let by_is : 0 ≡ record_by c.args.table.now c.args.count_regs c.args.list.now c.loop-i.i =
+    rw (← here.1, ← w.regs_are, ← inv.2) (sym passed.none) in (
+      unrefused_more inv.0 here.0 by_is refl,
+      walked_next w here.1 passed.regs_are passed.statics_are,
+      rw add-one (passed.past_is ∙ next_past here.1 w.statics_are inv.2),
     )
 
 pub returns : goal.returns

@@ -12,7 +12,7 @@ unfolding sources
 returns c =
     let s = c.shape_of-s.result in
     let e : s.regs + s.dsts + s.srcs - (s.regs + s.dsts) ≡ s.srcs = omega arith in
-    rw (e, c.shape_of-s.ensures) refl
+    rw (e, c.shape_of-s.ensures, c.requires) refl
 
 pub overflow_add-from : goal.overflow_add-from
 overflow_add-from c = omega (arith, room _ c.shape_of-s.ensures)

@@ -1,15 +1,23 @@
--- A new member's words go after those of the others, and the index has its bit. The rest is found.
-use Rattle.std.proofs.Common.{sym, ◌∙◌, arith, length-set}
-use Rattle.sets.specs.Members.{members_in}
-use Rattle.sets.proofs.Index.{indexed_more}
-use Rattle.sets.proofs.Pairs.{pair_joins, room_for}
+-- A new member's words go after those of the others, and its link where the walk for it ended. The rest is found.
+use Rattle.std.proofs.Common.{sym, ◌∙◌, ◌+◌, ◌*◌, ◌≤◌, arith, length, length-set}
+use Rattle.sets.specs.Sets.{link}
+use Rattle.sets.proofs.Pairs.{room_for}
+use Rattle.sets.proofs.Paths.{indexed_more, link_same, link_other, pair_old, pair_new}
 use Rattle.sets.proofs.ReadSet.insert.Goals as goal
 
-pub invariant_of-self-2 : goal.invariant_of-self-2
-invariant_of-self-2 c =
+pub invariant_of-self-3 : goal.invariant_of-self-3
+invariant_of-self-3 c =
     let s = c.args.self.now in
-    let room = room_for s.words.now s.len c.args.l (sym c.contains.ensures ∙ c.if-contains.false) c.requires in
+    let ends = c.in-Some.ensures in
+    let room : s.len * 2 + 2 ≤ length s.words.now = room_for s.words.now s.len c.args.l ends.absent c.requires in
+    let put_there =
+    link_same s.low.now s.high.now c.in-Some.place (s.len + 1) (omega (arith, ends.inside, room, s.links.in_low)) (omega (arith, ends.inside, room, s.links.in_high)) in
     record {
       room = rw (length-set, length-set) (omega (arith, room));
-      index = rw (pair_joins s.words.now s.len c.args.l room, c.note.ensures) (indexed_more s.seen (members_in s) c.args.l s.index);
+      links = simp (c.put.ensures.low, c.put.ensures.high, length-set) s.links;
+      index =
+          rw (c.put.ensures.low, c.put.ensures.high)
+          (indexed_more s.words.now _ _ c.args.l s.index ends
+          (link_other s.low.now s.high.now c.in-Some.place (s.len + 1)) put_there
+          (pair_old s.words.now s.len c.args.l room) (pair_new s.words.now s.len c.args.l room));
     }

@@ -36,58 +36,39 @@ call_of list colours ends members out room_out s table colored =
 pub loop-rec-init : goal.loop-rec-init
 loop-rec-init c =
     let called = call_of c.args.list.now c.args.colours.now c.args.ends.now (members_in c.args.set.now) c.args.out.now c.requires.out_room in
-    (search rules, (walked_first c.args.list.now c.new-renaming.ensures.regs c.new-renaming.ensures.statics, λ s table f col. contracting_first (called s table col) {t = c.default-tally.result} c.default-tally.ensures))
+    let walked = walked_first c.args.list.now c.new-renaming.ensures.regs c.new-renaming.ensures.statics in
+    (search rules, (walked, λ s table f col. contracting_first (called s table col) {t = c.default-tally.result} c.default-tally.ensures))
 
 -- ---- one turn: the record, and then the calls in their order
 
-pub contract_record-requires : goal.contract_record-requires
-contract_record-requires c =
+pub contract_by_kind-requires : goal.contract_by_kind-requires
+contract_by_kind-requires c =
     let here = c.records_of-rec-items.ensures.each c.loop-rec.rec-index c.loop-rec-test.true in
     let own = call_of c.args.list.now c.args.colours.now c.args.ends.now (members_in c.args.set.now) c.args.out.now c.requires.out_room c.args.settings c.requires.colored.0 c.requires.colored.1 in
     let kept = c.loop-rec.invariant.1.1 c.args.settings c.requires.colored.0 c.fixed-fixed.ensures c.requires.colored.1 in
     let rest = contract_asks own kept here.0 c.loop-rec.invariant.1.0 here.1 in
+    let few = turn _ (c.args.settings, c.requires.colored.0, c.requires.colored.1.passing) c.loop-rec.rec-index here.0 c.loop-rec.invariant.1.0 in
     record {
       partner_fits = rest.0;
+      few = omega (arith, few);
       colours_room = rest.1;
       ends_room = rest.2;
       short = rest.3;
-      records_in_bounds = rest.4;
+      out_room = rest.4;
     }
-
-pub pass-requires : goal.pass-requires
-pass-requires c =
-    let here = c.records_of-rec-items.ensures.each c.loop-rec.rec-index c.loop-rec-test.true in
-    omega (arith, turn _ (c.args.settings, c.requires.colored.0, c.requires.colored.1.passing) c.loop-rec.rec-index here.0 c.loop-rec.invariant.1.0)
-
-pub offset_bounds-ends-first : goal.offset_bounds-ends-first
-offset_bounds-ends-first c =
-    let here = c.records_of-rec-items.ensures.each c.loop-rec.rec-index c.loop-rec-test.true in
-    omega (arith, turn _ (c.args.settings, c.requires.colored.0, c.requires.colored.1.passing) c.loop-rec.rec-index here.0 c.loop-rec.invariant.1.0)
-
-pub slice_bounds-unmark-end : goal.slice_bounds-unmark-end
-slice_bounds-unmark-end c =
-    let here = c.records_of-rec-items.ensures.each c.loop-rec.rec-index c.loop-rec-test.true in
-    omega (
-      arith,
-      turn _ (c.args.settings, c.requires.colored.0, c.requires.colored.1.passing) c.loop-rec.rec-index here.0 c.loop-rec.invariant.1.0,
-      c.pass.ensures.statics,
-      gens_two (get_or c.records_of-rec-items.result.now c.loop-rec.rec-index []),
-      c.requires.colored.1.ends_room,
-      c.loop-rec.auto.ends,
-    )
 
 pub loop-rec-preserved : goal.loop-rec-preserved
 loop-rec-preserved c =
     let here = c.records_of-rec-items.ensures.each c.loop-rec.rec-index c.loop-rec-test.true in
     let called = call_of c.args.list.now c.args.colours.now c.args.ends.now (members_in c.args.set.now) c.args.out.now c.requires.out_room in
     let inv = c.loop-rec.invariant in
-    let made : c.pass.new.self.statics - c.loop-rec.renaming.statics ≡ gens (dests (get_or c.records_of-rec-items.result.now c.loop-rec.rec-index [])) = omega (arith, c.pass.ensures.statics) in (
+    let turned = c.contract_by_kind.ensures in (
       omega (arith, here.0),
       (
-        walked_next inv.1.0 here.1 c.pass.ensures.regs c.pass.ensures.statics,
+        walked_next inv.1.0 here.1 turned.regs_are turned.statics_are,
         λ s table f col.
             contracting_next (called s table col) (inv.1.1 s table f col) here.0 inv.1.0 here.1
-            c.fixed-fixed.result f made c.contract_record.ensures.tally (rw c.unmark.ensures refl) c.contract_record.ensures.out,
+            c.fixed-fixed.result f refl turned.tally_is turned.ends_are turned.out_is,
       ),
     )
 

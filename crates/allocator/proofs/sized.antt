@@ -1,0 +1,2 @@
+-- Working space by classes, src/sized.rt.
+pub mod Written

@@ -1,0 +1,75 @@
+-- The statics as entries, from the colours and the ends that the walks leave in working space.
+-- There are as many ends as colours, and the count names both.
+use Prim.Native.Nat.{ℕ, suc, ◌*◌, ◌/◌, ◌≤◌}
+use mathlib.Core.List.{List, [], ◌∷◌, ◌++◌}
+use mathlib.Core.Bool.{true}
+use mathlib.Core.Path.{◌≡◌, refl, sym, ap, ◌∙◌}
+use native.Mathlib.Omega.{arith}
+use lib.ListN.{length, get_or, take, drop}
+use Rattle.mir.specs.declared.config.Settings.{Settings}
+use Rattle.mir.specs.Records.{records}
+use Rattle.mir.proofs.Over.{over_take}
+use Rattle.mir.proofs.Renaming.{statics_two}
+use Rattle.passes.specs.Contract.{colours_of, counts_of}
+use Rattle.passes.specs.Create.{ends_of}
+use Rattle.passes.specs.Machine.{Passing}
+use Rattle.theorems.proofs.Create.{ends_count}
+use Rattle.theorems.proofs.NeverEmpty.{ready_to}
+use Rattle.mir.proofs.Passing.{ListPasses, list_passes}
+use Rattle.walks.specs.declared.Counts.{Counts}
+use Rattle.walks.specs.Lent.{Lent}
+use Rattle.walks.specs.Walks.{Reduces}
+use Rattle.allocator.specs.declared.statics.Static.{Static}
+use Rattle.allocator.specs.Statics.{entries, statics_of}
+use Rattle.allocator.specs.Optimize.{lent_statics}
+use Rattle.allocator.specs.Sized.{Written}
+
+entries_length : (cs es : List ℕ) → length es ≡ length cs → length (entries cs es) ≡ length cs
+unfolding entries
+entries_length [] es h = refl
+entries_length (c ∷ cs) [] h = absurd (omega arith)
+entries_length (c ∷ cs) (e ∷ es) h = ap suc (entries_length cs es (omega arith))
+
+module _ (s : Settings) (list table : List ℕ) (h : Passing s list table) where
+  passes : ListPasses s list table
+  unfolding Passing
+  passes = list_passes true s list table h
+
+  pub small : length list ≤ 524288
+  small = passes.sized.small
+
+  pub ends_same : length (ends_of list) ≡ length (colours_of s list table)
+  unfolding colours_of
+  ends_same = ends_count list ∙ sym (ready_to s list table passes (records list) (omega arith)).next
+
+  statics_length : length (statics_of s list table) ≡ length (colours_of s list table)
+  unfolding statics_of
+  statics_length = entries_length (colours_of s list table) (ends_of list) ends_same
+
+  module _ {held now : Lent} {r : Counts} (w : Reduces s list table held now r) where
+    count_is : r.statics ≡ length (colours_of s list table)
+    unfolding counts_of
+    count_is = ap (λ values. get_or values 1 0) w.counts
+
+    -- two for each record
+    pub few_statics : r.statics ≤ length list / 8 * 2
+    few_statics = omega (arith, count_is, ends_same, ends_count list, statics_two list (records list))
+
+    -- the words that the count names
+    colours_taken : take r.statics now.colours ≡ colours_of s list table
+    colours_taken = rw (count_is, w.colours) (over_take (colours_of s list table) held.colours)
+
+    ends_taken : take r.statics now.ends ≡ ends_of list
+    ends_taken = rw (count_is, sym ends_same, w.ends) (over_take (ends_of list) held.ends)
+
+    pub written : {statics left : List Static}
+        → left ≡ entries (take r.statics now.colours) (take r.statics now.ends) ++ drop r.statics statics
+        → Written s list table (lent_statics held.out statics held.set) (lent_statics now.out left now.set) r
+    unfolding statics_of
+    written {statics} e =
+        record {
+          counts = w.counts;
+          out = w.out;
+          statics = rw (colours_taken, ends_taken, count_is, sym statics_length) at e;
+          set = w.set;
+        }

@@ -1,0 +1,2 @@
+-- The lent statics, src/statics.rt.
+pub mod Entries

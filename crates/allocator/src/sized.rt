@@ -1,0 +1,86 @@
+// Working space for the colours and the ends, in classes by how many records a list has: 512, 4,096 and 65,536. A list
+// takes the space of its class and no more.
+ghost use Rattle.std.specs.Prelude.{◌*◌, ◌/◌, ◌≤◌, length};
+ghost use Rattle.passes.specs.Machine.{Passing};
+ghost use Rattle.walks.specs.Walks.{Roomy};
+ghost use Rattle.allocator.specs.Optimize.{lent_statics};
+ghost use Rattle.allocator.specs.Sized.{Written};
+
+use crate::statics::{Static, write_statics};
+use mir::config::Settings;
+use walks::{Counts, reduce};
+
+// The walks with working space that is lent, and the statics written from it.
+fn reduce_with(
+    list: &[u32],
+    table: &[u32],
+    settings: Settings,
+    out: &mut [u32],
+    statics: &mut [Static],
+    set: &mut [u32],
+    colours: &mut [u32],
+    ends: &mut [u32],
+) -> Counts
+    requires passing { Passing settings list.now table.now }
+    requires roomy { Roomy (length list.now) (length table.now) (length out.old) (length statics.old) (length statics.old) (length set.old) }
+    requires colours_room { length list.now / 8 * 2 ≤ length colours.old }
+    requires ends_room { length list.now / 8 * 2 ≤ length ends.old }
+    ensures { Written settings list.now table.now (lent_statics out.old statics.old set.old) (lent_statics out.new statics.new set.new) result }
+{
+    let counts = reduce(list, table, settings, out, colours, ends, set);
+    write_statics(colours, ends, counts.statics as usize, statics);
+    counts
+}
+
+// Kept out of its caller's frame, or a short list would take the stack of a long one.
+#[inline(never)]
+fn reduce_in<const N: usize>(
+    list: &[u32],
+    table: &[u32],
+    settings: Settings,
+    out: &mut [u32],
+    statics: &mut [Static],
+    set: &mut [u32],
+) -> Counts
+    requires passing { Passing settings list.now table.now }
+    requires roomy { Roomy (length list.now) (length table.now) (length out.old) (length statics.old) (length statics.old) (length set.old) }
+    requires space { length list.now / 8 * 2 ≤ N }
+    requires small { N ≤ 131072 }
+    ensures { Written settings list.now table.now (lent_statics out.old statics.old set.old) (lent_statics out.new statics.new set.new) result }
+{
+    let mut colours = [0u32; N];
+    let mut ends = [0u32; N];
+    reduce_with(
+        list,
+        table,
+        settings,
+        out,
+        statics,
+        set,
+        &mut colours,
+        &mut ends,
+    )
+}
+
+// A list that passes, reduced in the space of its class: two words of each kind for a record.
+pub fn reduce_sized(
+    list: &[u32],
+    table: &[u32],
+    settings: Settings,
+    out: &mut [u32],
+    statics: &mut [Static],
+    set: &mut [u32],
+) -> Counts
+    requires passing { Passing settings list.now table.now }
+    requires roomy { Roomy (length list.now) (length table.now) (length out.old) (length statics.old) (length statics.old) (length set.old) }
+    ensures { Written settings list.now table.now (lent_statics out.old statics.old set.old) (lent_statics out.new statics.new set.new) result }
+{
+    let records = list.len() / 8;
+    if records <= 512 {
+        reduce_in::<1024>(list, table, settings, out, statics, set)
+    } else if records <= 4096 {
+        reduce_in::<8192>(list, table, settings, out, statics, set)
+    } else {
+        reduce_in::<131_072>(list, table, settings, out, statics, set)
+    }
+}
