@@ -20,7 +20,7 @@ use survey::survey;
 use walks::Counts;
 
 // A refusal as the word that C gets: the question's number above bit 32, the record's index below it.
-fn refusal_word(refusal: Refusal) -> u64
+pub fn refusal_word(refusal: Refusal) -> u64
     ensures { result ≡ refusal_word (number_of refusal.question) refusal.index }
 {
     let number = refusal.question.number();
