@@ -12,15 +12,14 @@
  * with questions 1 to 4. It changes nothing that was lent.
  *
  * Stack that a call takes at most, in bytes beyond the caller's frame; not proved, but measured on lists of all kinds, and held
- * by a test. For a list that is reduced it goes by how many words its set must have:
+ * by a test. For a list that passes questions 1 to 4 it goes by how many words its set must have:
  *
  *   rudzaviks_survey                                       1,024
- *   rudzaviks_optimize, the list being refused by 16      18,432
- *   rudzaviks_optimize, by any other question              1,536
- *   rudzaviks_optimize, a set of at most 3,072 words      18,432
+ *   rudzaviks_optimize, the list being refused by 1 to 4     512
+ *   rudzaviks_optimize, a set of at most 3,072 words      21,504
  *   rudzaviks_optimize, a set of at most 20,480 words     76,800
  *   rudzaviks_optimize, a longer set                   1,084,416
- *   rudzaviks_reduce                                      75,776
+ *   rudzaviks_reduce                                      78,848
  */
 #ifndef RUDZAVIKS_H
 #define RUDZAVIKS_H

@@ -19,15 +19,18 @@ use rudzaviks::ffi::{optimize_word, reduce_word, survey_word, Buffers, PARTS};
 
 /// What the documents state, in bytes.
 const SURVEY: usize = 1_024;
-const REFUSED: usize = 1_536;
-/// Question 16 has a table on the stack, and is put once all others have passed.
-const REFUSED_BY_16: usize = 18_432;
-const FILE: usize = 75_776;
+const REFUSED_AT_ONCE: usize = 512;
+const FILE: usize = 78_848;
+
+/// For a list that is refused by a question about its records, by the most of them. The last number
+/// is for 16, which has a table on the stack, and is put once all others have passed.
+const REFUSED: [(usize, usize, usize); 3] =
+    [(768, 5_632, 21_504), (5_120, 23_040, 38_912), (MOST_RECORDS, 264_704, 280_576)];
 
 /// For a list that is reduced, by the words that its set must have. Beside the bytes are the lists
 /// that are run, as records and pairs, the largest of each class among them.
 const REDUCED: [(usize, &[(usize, usize)]); 3] = [
-    (18_432, &[(0, 0), (1, 0), (512, 512), (768, 0)]),
+    (21_504, &[(0, 0), (1, 0), (512, 512), (768, 0)]),
     (76_800, &[(512, 513), (769, 0), (4_096, 2_048), (5_120, 0)]),
     (1_084_416, &[(4_096, 2_049), (5_121, 0), (MOST_RECORDS, 0), (MOST_RECORDS, MOST_PAIRS)]),
 ];
@@ -144,16 +147,24 @@ fn optimize(what: &str, least: usize, most: usize, list: &List) -> u64 {
 }
 
 #[test]
-fn a_refusal_takes_little() {
-    let none = List { settings: Settings { count_regs: 65, ..WIDE }, ..passing(0) };
-    assert_eq!(optimize("refused by 1", 0, REFUSED, &none), 1 << 32);
-    for number in [9, 15, 16] {
-        for records in [3, 4_096, 65_536] {
-            let (what, list) = (format!("refused by {number}"), refused(records, number));
-            let most = if number == 16 { REFUSED_BY_16 } else { REFUSED };
-            let word = optimize(&what, most / 2, most, &list);
-            assert_eq!(word, (number << 32) | (records as u64 - 1));
+fn a_refusal_before_any_record_takes_little() {
+    let list = List { settings: Settings { count_regs: 65, ..WIDE }, ..passing(MOST_RECORDS) };
+    assert_eq!(optimize("refused by 1", 0, REFUSED_AT_ONCE, &list), 1 << 32);
+}
+
+/// Lists as short and as long as a class has them.
+#[test]
+fn a_refusal_takes_what_its_class_does() {
+    let mut shortest = 3;
+    for (longest, most, most_by_16) in REFUSED {
+        for (number, most) in [(9, most), (15, most), (16, most_by_16)] {
+            for records in [shortest, longest] {
+                let (what, list) = (format!("refused by {number}"), refused(records, number));
+                let word = optimize(&what, most * 3 / 4, most, &list);
+                assert_eq!(word, (number << 32) | (records as u64 - 1));
+            }
         }
+        shortest = longest + 1;
     }
 }
 
@@ -213,14 +224,20 @@ fn written(number: usize) -> String {
     }
 }
 
+fn states(document: &str, numbers: impl Iterator<Item = usize>) {
+    let path = format!("{}/../{document}", env!("CARGO_MANIFEST_DIR"));
+    let text = fs::read_to_string(path).expect("the document is there");
+    for number in numbers {
+        assert!(text.contains(&written(number)), "{document} does not state {number} bytes");
+    }
+}
+
 #[test]
 fn the_documents_state_these_numbers() {
-    for document in ["include/rudzaviks.h", "docs/FORMAT.md", "docs/GUARANTEES.md"] {
-        let path = format!("{}/../{document}", env!("CARGO_MANIFEST_DIR"));
-        let text = fs::read_to_string(path).expect("the document is there");
-        let reduced = REDUCED.map(|(most, _)| most);
-        for number in [SURVEY, REFUSED, REFUSED_BY_16, FILE].into_iter().chain(reduced) {
-            assert!(text.contains(&written(number)), "{document} does not state {number} bytes");
-        }
-    }
+    let reduced = REDUCED.map(|(most, _)| most);
+    let each = || [SURVEY, REFUSED_AT_ONCE, FILE].into_iter().chain(reduced);
+    states("include/rudzaviks.h", each());
+    states("docs/GUARANTEES.md", each());
+    let refused = REFUSED.into_iter().flat_map(|(_, most, most_by_16)| [most, most_by_16]);
+    states("docs/FORMAT.md", each().chain(refused));
 }

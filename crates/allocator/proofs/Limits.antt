@@ -4,10 +4,9 @@
 use mathlib.Core.Bool.{true, false}
 use mathlib.Core.List.{[], ◌∷◌}
 use mathlib.Core.Path.{◌≡◌, refl}
-use Rattle.mir.specs.Answers.{Passed, Refused}
 use Rattle.mir.specs.Shapes.{row}
 use Rattle.walks.specs.Lent.{lent}
-use Rattle.allocator.specs.Optimize.{lent_statics, room_for, room_in, room_in_words, left}
+use Rattle.allocator.specs.Optimize.{lent_statics, room_for, room_in, room_in_words}
 use Rattle.allocator.specs.Statics.{entry, entries}
 
 -- three records and three pairs, by their numbers; then a record and a pair
@@ -58,13 +57,11 @@ room_cases =
       one_end = refl;
     }
 
--- a colour stands before its end, and a slice of entries keeps what is past them
+-- a colour stands before its end
 pub record EntryCases : Type 0 where
   pub none : entries [] [] ≡ []
   pub two : entries (7 ∷ 8 ∷ []) (1 ∷ 2 ∷ []) ≡ entry 7 1 ∷ entry 8 2 ∷ []
-  pub rest : left Passed (entry 7 1 ∷ []) (entry 9 9 ∷ entry 3 4 ∷ []) ≡ entry 7 1 ∷ entry 3 4 ∷ []
-  pub refused : left (Refused 4 0) (entry 7 1 ∷ []) (entry 9 9 ∷ entry 3 4 ∷ []) ≡ entry 9 9 ∷ entry 3 4 ∷ []
 
 pub entry_cases : EntryCases
 unfolding entries
-entry_cases = record { none = refl; two = refl; rest = refl; refused = refl }
+entry_cases = record { none = refl; two = refl }

@@ -1,38 +1,37 @@
--- The promises of both forms: of a list that passes, from what the walks left; of any other, from nothing having changed.
+-- The promises of both forms, from what is answered and left by the verdict; and what the start of an operation knows of its verdict.
 -- Demand 3 is the theorem about the definitions, put to the words that the output starts with.
 use Prim.Native.Nat.{ℕ, ◌+◌, ◌*◌, ◌/◌, ◌≤◌}
 use mathlib.Core.Bool.{Bool, true, ◌&&◌}
-use mathlib.Core.List.{List, ◌++◌}
+use mathlib.Core.List.{List}
 use mathlib.Core.Path.{◌≡◌, refl, sym, ap, subst, ◌∙◌}
 use native.Mathlib.Omega.{arith}
 use lib.Dec.{leb}
-use lib.ListN.{length, take, drop}
+use lib.ListN.{length, take}
 use borrow.Author.Tests.{leb-true}
-use Rattle.mir.specs.declared.config.Settings.{Settings}
-use Rattle.mir.specs.Answers.{Verdict}
-use Rattle.mir.specs.Answers as verdict
-use Rattle.std.specs.Prelude.{Ok, Err}
+use Rattle.std.specs.Prelude.{Result, Err}
 use Rattle.std.proofs.Math.Nat.{min-le_left, min-le_right}
-use Rattle.mir.specs.Answers.{answered, number_of, unless, over}
+use Rattle.mir.specs.declared.config.Settings.{Settings}
+use Rattle.mir.specs.declared.refusal.Refusal.{Refusal}
+use Rattle.mir.specs.Answers.{Verdict, Passed, Refused, answered, number_of, unless, over, left}
+use Rattle.mir.specs.Folds.{or_else}
+use Rattle.mir.specs.Inner.{start_refusal, list_refusal}
 use Rattle.mir.specs.Questions.{refusal}
 use Rattle.mir.specs.Records.{records, fixed_mark}
-use Rattle.mir.proofs.Passing.{not_passed, room_passes}
+use Rattle.mir.proofs.Over.{over_take}
+use Rattle.mir.proofs.Passing.{room_passes, start_passes, refusal_parts, refusal_after}
 use Rattle.mir.proofs.Renaming.{and_both}
 use Rattle.passes.specs.declared.alloc.Outcome.TheVariants.{Kept}
 use Rattle.passes.specs.Color.{setup}
-use Rattle.passes.specs.Contract.{reduced, colours_of, members_of, words_of, count_of, counts_of}
-use Rattle.passes.specs.Create.{ends_of}
+use Rattle.passes.specs.Contract.{reduced, members_of, words_of, count_of, counts_of}
 use Rattle.passes.specs.Machine.{Passing, Preserves}
 use Rattle.theorems.proofs.Lengths.{reduced_length}
 use Rattle.theorems.proofs.Preserved.{list_preserved}
-use Rattle.mir.specs.declared.refusal.Refusal.{Refusal}
 use Rattle.walks.specs.declared.Counts.{Counts}
-use Rattle.walks.specs.Lent.{Lent, values_in}
-use Rattle.allocator.specs.Optimize.{LentStatics, Optimized, OptimizedWords, room_for, room_in, room_in_words, verdict_of, verdict_of_words, report, records_in, left}
-use Rattle.allocator.specs.Sized.{Written}
+use Rattle.walks.specs.Lent.{Lent, Leaves, report}
+use Rattle.walks.specs.Walks.{Roomy}
+use Rattle.walks.proofs.Leaves.{answer_refused, left_refused}
+use Rattle.allocator.specs.Optimize.{LentStatics, LeavesStatics, Optimized, OptimizedWords, KeepsRuns, room_for, room_in, room_in_words, verdict_of, verdict_of_words, records_in}
 use Rattle.allocator.specs.Statics.{statics_of}
-use Rattle.walks.specs.Walks.{Roomy, Reduces}
-use Rattle.mir.proofs.Over.{over_take}
 
 module _ (s : Settings) (list table : List ℕ) where
   pub reduced_words : length (reduced s list table) ≡ count_of Kept s list table * 8
@@ -47,10 +46,38 @@ module _ (s : Settings) (list table : List ℕ) where
   pub taken : (old : List ℕ) → take (records_in (answered (counts_of s list table)) * 8) (over (reduced s list table) old) ≡ reduced s list table
   taken old = ap (λ n. take n (over (reduced s list table) old)) (ap (λ n. n * 8) first_count ∙ sym reduced_words) ∙ over_take (reduced s list table) old
 
+  -- demand 3, of the records that the answer counts
+  pub keeps : (out : List ℕ) (given : Result Counts Refusal) {v : Verdict} {now : List ℕ} → (v ≡ Passed → Passing s list table)
+      → report given ≡ unless v (counts_of s list table) → now ≡ left v (reduced s list table) out → KeepsRuns v s list given now
+  keeps out given {v} {now} passing answer is q =
+      let starts : now ≡ over (reduced s list table) out = is ∙ ap (λ u. left u (reduced s list table) out) q in
+      let counted : report given ≡ answered (counts_of s list table) = answer ∙ ap (λ u. unless u (counts_of s list table)) q in
+      subst (Preserves s list)
+      (sym (ap (take (records_in (report given) * 8)) starts ∙ (ap (λ a. take (records_in a * 8) (over (reduced s list table) out)) counted ∙ taken out)))
+      (list_preserved s list table (passing q))
+
 -- a list that passes, whatever the room was
-pub passing_with : (room : Bool) (s : Settings) (list table : List ℕ) → refusal room s list table ≡ verdict.Passed → Passing s list table
+pub passing_with : (room : Bool) (s : Settings) (list table : List ℕ) → refusal room s list table ≡ Passed → Passing s list table
 unfolding Passing
 passing_with room s list table v = rw (room_passes room s list table v) at v
+
+-- ---- the start of an operation
+
+-- questions 1 to 4 answered yes: so they are with any room, and the records decide
+pub record Started (room : Bool) (s : Settings) (list table : List ℕ) : Type 0 where
+  pub anyway : start_refusal true s (length list) (length table) ≡ Passed
+  pub room_is : room ≡ true
+  pub verdict_is : refusal room s list table ≡ list_refusal s.count_regs list table
+
+module _ (room : Bool) (s : Settings) (list table : List ℕ) where
+  pub started : start_refusal room s (length list) (length table) ≡ Passed → Started room s list table
+  started h =
+      let r = (start_passes room s (length list) (length table) h).roomy in
+      record { anyway = rw r at h; room_is = r; verdict_is = refusal_after room s list table h }
+
+  -- or one of them answered no
+  pub stopped : {number index : ℕ} → start_refusal room s (length list) (length table) ≡ Refused number index → refusal room s list table ≡ Refused number index
+  stopped h = refusal_parts room s list table ∙ ap (λ v. or_else v (list_refusal s.count_regs list table)) h
 
 -- question 4 answered yes: the output has room, the statics and the set
 room_lem : (list table out statics set : ℕ) → room_for list table out statics set ≡ true
@@ -67,103 +94,49 @@ roomy list table out colours ends set {statics} c e h =
     let r = room_lem list table out statics set h in
     record { for_out = r.0; for_colours = omega (arith, r.1, c); for_ends = omega (arith, r.1, e); for_set = r.2 }
 
--- what a verdict decides of an answer and of a slice
-
-pub answer_passed : {v : Verdict} {r : Counts} (values : List ℕ) → v ≡ verdict.Passed → values_in r ≡ values → report (Ok r) ≡ unless v values
-answer_passed values p e = ap answered e ∙ sym (ap (λ u. unless u values) p)
-
-pub answer_refused : {v : Verdict} (r : Refusal) (values : List ℕ) → v ≡ verdict.Refused (number_of r.question) r.index → report (Err r) ≡ unless v values
-answer_refused r values p = sym (ap (λ u. unless u values) p)
-
-module _ (s : Settings) (list table : List ℕ) where
-  -- demand 3, of the records that the counts name
-  pub preserved_lem : (r : Counts) (out : List ℕ) {now : List ℕ} → Passing s list table → values_in r ≡ counts_of s list table → now ≡ over (reduced s list table) out
-      → Preserves s list (take (records_in (report (Ok r)) * 8) now)
-  preserved_lem r out h e o =
-      subst (Preserves s list)
-      (sym (ap (take (records_in (report (Ok r)) * 8)) o
-      ∙ (ap (λ a. take (records_in a * 8) (over (reduced s list table) out)) (ap answered e) ∙ taken s list table out)))
-      (list_preserved s list table h)
-
-pub left_passed : {Item : Type 0} {v : Verdict} (items held : List Item) {now : List Item} → v ≡ verdict.Passed → now ≡ items ++ drop (length items) held
-    → now ≡ left v items held
-left_passed items held p e = e ∙ sym (ap (λ u. left u items held) p)
-
-pub left_refused : {Item : Type 0} {v : Verdict} (items held : List Item) {number index : ℕ} → v ≡ verdict.Refused number index → held ≡ left v items held
-left_refused items held p = sym (ap (λ u. left u items held) p)
-
 -- ---- `optimize`
 
 module _ (s : Settings) (list table : List ℕ) (held : LentStatics) where
-  pub enough : verdict_of s list table held ≡ verdict.Passed
+  pub enough : room_in list table held ≡ true
       → Roomy (length list) (length table) (length held.out) (length held.statics) (length held.statics) (length held.set)
-  unfolding verdict_of room_in
-  enough v =
+  unfolding room_in
+  enough h =
       roomy (length list) (length table) (length held.out) (length held.statics) (length held.statics) (length held.set) {statics = length held.statics}
-      (omega arith) (omega arith) (room_passes (room_in list table held) s list table v)
+      (omega arith) (omega arith) h
 
-  pub passing : verdict_of s list table held ≡ verdict.Passed → Passing s list table
+  pub decided : {room : Bool} {v : Verdict} → room ≡ room_in list table held → refusal room s list table ≡ v → verdict_of s list table held ≡ v
   unfolding verdict_of
-  passing v = passing_with (room_in list table held) s list table v
+  decided r e = sym (ap (λ b. refusal b s list table) r) ∙ e
 
-module _ {s : Settings} {list table : List ℕ} {held : LentStatics} where
-  pub passed_promise : {now : LentStatics} {r : Counts} → verdict_of s list table held ≡ verdict.Passed → Written s list table held now r
-      → Optimized s list table held now (Ok r)
-  passed_promise {r = r} v w =
-      record {
-        answer = answer_passed (counts_of s list table) v w.counts;
-        out = left_passed (reduced s list table) held.out v w.out;
-        statics = left_passed (statics_of s list table) held.statics v w.statics;
-        set = left_passed (words_of (members_of s list table)) held.set v w.set;
-        preserved = λ p. preserved_lem s list table r held.out (passing s list table held p) w.counts w.out;
-      }
+  pub promised : {now : LentStatics} {given : Result Counts Refusal} → LeavesStatics (verdict_of s list table held) s list table held now given
+      → Optimized s list table held now given
+  unfolding verdict_of
+  promised {given = given} w = record { leaves = w; preserved = keeps s list table held.out given (passing_with (room_in list table held) s list table) w.answer w.out }
 
-  pub refused_promise : {r : Refusal} → verdict_of s list table held ≡ verdict.Refused (number_of r.question) r.index → Optimized s list table held held (Err r)
-  refused_promise {r} v =
+  pub statics_refused : {v : Verdict} {r : Refusal} → v ≡ Refused (number_of r.question) r.index → LeavesStatics v s list table held held (Err r)
+  statics_refused {r = r} p =
       record {
-        answer = answer_refused r (counts_of s list table) v;
-        out = left_refused (reduced s list table) held.out v;
-        statics = left_refused (statics_of s list table) held.statics v;
-        set = left_refused (words_of (members_of s list table)) held.set v;
-        preserved = λ p. absurd (not_passed (number_of r.question) r.index (sym v ∙ p));
+        answer = answer_refused r (counts_of s list table) p;
+        out = left_refused (reduced s list table) held.out p;
+        statics = left_refused (statics_of s list table) held.statics p;
+        set = left_refused (words_of (members_of s list table)) held.set p;
       }
 
 -- ---- `optimize_words`
 
 module _ (s : Settings) (list table : List ℕ) (held : Lent) where
-  pub enough_words : verdict_of_words s list table held ≡ verdict.Passed
+  pub enough_words : room_in_words list table held ≡ true
       → Roomy (length list) (length table) (length held.out) (length held.colours) (length held.ends) (length held.set)
-  unfolding verdict_of_words room_in_words
-  enough_words v =
+  unfolding room_in_words
+  enough_words h =
       roomy (length list) (length table) (length held.out) (length held.colours) (length held.ends) (length held.set)
-      (min-le_left (length held.colours) (length held.ends)) (min-le_right (length held.colours) (length held.ends))
-      (room_passes (room_in_words list table held) s list table v)
+      (min-le_left (length held.colours) (length held.ends)) (min-le_right (length held.colours) (length held.ends)) h
 
-  pub passing_words : verdict_of_words s list table held ≡ verdict.Passed → Passing s list table
+  pub decided_words : {room : Bool} {v : Verdict} → room ≡ room_in_words list table held → refusal room s list table ≡ v → verdict_of_words s list table held ≡ v
   unfolding verdict_of_words
-  passing_words v = passing_with (room_in_words list table held) s list table v
+  decided_words r e = sym (ap (λ b. refusal b s list table) r) ∙ e
 
-module _ {s : Settings} {list table : List ℕ} {held : Lent} where
-  pub passed_words : {now : Lent} {r : Counts} → verdict_of_words s list table held ≡ verdict.Passed → Reduces s list table held now r
-      → OptimizedWords s list table held now (Ok r)
-  passed_words {r = r} v w =
-      record {
-        answer = answer_passed (counts_of s list table) v w.counts;
-        out = left_passed (reduced s list table) held.out v w.out;
-        colours = left_passed (colours_of s list table) held.colours v w.colours;
-        ends = left_passed (ends_of list) held.ends v w.ends;
-        set = left_passed (words_of (members_of s list table)) held.set v w.set;
-        preserved = λ p. preserved_lem s list table r held.out (passing_words s list table held p) w.counts w.out;
-      }
-
-  pub refused_words : {r : Refusal} → verdict_of_words s list table held ≡ verdict.Refused (number_of r.question) r.index
-      → OptimizedWords s list table held held (Err r)
-  refused_words {r} v =
-      record {
-        answer = answer_refused r (counts_of s list table) v;
-        out = left_refused (reduced s list table) held.out v;
-        colours = left_refused (colours_of s list table) held.colours v;
-        ends = left_refused (ends_of list) held.ends v;
-        set = left_refused (words_of (members_of s list table)) held.set v;
-        preserved = λ p. absurd (not_passed (number_of r.question) r.index (sym v ∙ p));
-      }
+  pub promised_words : {now : Lent} {given : Result Counts Refusal} → Leaves (verdict_of_words s list table held) s list table held now given
+      → OptimizedWords s list table held now given
+  unfolding verdict_of_words
+  promised_words {given = given} w = record { leaves = w; preserved = keeps s list table held.out given (passing_with (room_in_words list table held) s list table) w.answer w.out }

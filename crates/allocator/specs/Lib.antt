@@ -1,4 +1,3 @@
--- Public: what `optimize` promises, in either form. Sized is inner: no promise is made in its words.
+-- Public: what `optimize` promises, in either form.
 pub mod Optimize
-pub mod Sized
 pub mod Statics

@@ -1,16 +1,15 @@
 -- Public, document 01, sections 4, 5, 7 and 10: what `optimize` answers, and what the lent slices then hold.
-use Rattle.std.specs.Prelude.{ℕ, ◌+◌, ◌*◌, ◌/◌, Bool, ◌&&◌, List, ◌++◌, Result, Ok, Err, ◌≡◌, leb, min, length, get_or, take, drop}
+use Rattle.std.specs.Prelude.{ℕ, ◌+◌, ◌*◌, ◌/◌, Bool, ◌&&◌, List, Result, ◌≡◌, leb, min, length, get_or, take}
 use Rattle.mir.specs.declared.config.Settings.{Settings}
 use Rattle.mir.specs.Answers.{Verdict}
 use Rattle.mir.specs.Answers as verdict
-use Rattle.mir.specs.Answers.{Report, answered, refused, number_of, unless}
+use Rattle.mir.specs.Answers.{Report, answered, refused, unless, left}
 use Rattle.mir.specs.Questions.{refusal}
-use Rattle.passes.specs.Contract.{reduced, colours_of, members_of, words_of, counts_of}
-use Rattle.passes.specs.Create.{ends_of}
+use Rattle.passes.specs.Contract.{reduced, members_of, words_of, counts_of}
 use Rattle.passes.specs.Machine.{Preserves}
 use Rattle.walks.specs.declared.Counts.{Counts}
 use Rattle.mir.specs.declared.refusal.Refusal.{Refusal}
-use Rattle.walks.specs.Lent.{Lent, values_in}
+use Rattle.walks.specs.Lent.{Lent, Leaves, report}
 use Rattle.allocator.specs.declared.statics.Static.{Static}
 use Rattle.allocator.specs.Statics.{statics_of}
 
@@ -43,39 +42,29 @@ verdict_of s list table held = refusal (room_in list table held) s list table
 unfoldable pub verdict_of_words : Settings → List ℕ → List ℕ → Lent → Verdict
 verdict_of_words s list table held = refusal (room_in_words list table held) s list table
 
--- the answer in document 01's terms: the seven counts, or number and index
-abbrev pub report : Result Counts Refusal → Report
-report (Ok c) = answered (values_in c)
-report (Err r) = refused (number_of r.question) r.index
-
 -- how many records the reduced list has
 abbrev pub records_in : Report → ℕ
 records_in (answered values) = get_or values 0 0
 records_in (refused number index) = 0
-
--- a slice starts with the words or entries if the list passes; a refusal changes none
-abbrev pub left : {Item : Type 0} → Verdict → List Item → List Item → List Item
-left verdict.Passed items held = items ++ drop (length items) held
-left (verdict.Refused number index) items held = held
 
 -- section 5 and request 10: the runs of an accepted list, and those of the first records that the output now holds, as many as
 -- the answer counts
 abbrev pub KeepsRuns : Verdict → Settings → List ℕ → Result Counts Refusal → List ℕ → Type 0
 KeepsRuns v s list given out = v ≡ verdict.Passed → Preserves s list (take (records_in (report given) * 8) out)
 
+-- by the verdict, what is answered, and what the slices then hold of what they held
+pub record LeavesStatics (v : Verdict) (s : Settings) (list table : List ℕ) (held now : LentStatics) (given : Result Counts Refusal) : Type 0 where
+  pub answer : report given ≡ unless v (counts_of s list table)
+  pub out : now.out ≡ left v (reduced s list table) held.out
+  pub statics : now.statics ≡ left v (statics_of s list table) held.statics
+  pub set : now.set ≡ left v (words_of (members_of s list table)) held.set
+
 -- the promise of `optimize`, with what the lent slices held and hold
 pub record Optimized (s : Settings) (list table : List ℕ) (held now : LentStatics) (given : Result Counts Refusal) : Type 0 where
-  pub answer : report given ≡ unless (verdict_of s list table held) (counts_of s list table)
-  pub out : now.out ≡ left (verdict_of s list table held) (reduced s list table) held.out
-  pub statics : now.statics ≡ left (verdict_of s list table held) (statics_of s list table) held.statics
-  pub set : now.set ≡ left (verdict_of s list table held) (words_of (members_of s list table)) held.set
+  pub leaves : LeavesStatics (verdict_of s list table held) s list table held now given
   pub preserved : KeepsRuns (verdict_of s list table held) s list given now.out
 
 -- the promise of `optimize_words`
 pub record OptimizedWords (s : Settings) (list table : List ℕ) (held now : Lent) (given : Result Counts Refusal) : Type 0 where
-  pub answer : report given ≡ unless (verdict_of_words s list table held) (counts_of s list table)
-  pub out : now.out ≡ left (verdict_of_words s list table held) (reduced s list table) held.out
-  pub colours : now.colours ≡ left (verdict_of_words s list table held) (colours_of s list table) held.colours
-  pub ends : now.ends ≡ left (verdict_of_words s list table held) (ends_of list) held.ends
-  pub set : now.set ≡ left (verdict_of_words s list table held) (words_of (members_of s list table)) held.set
+  pub leaves : Leaves (verdict_of_words s list table held) s list table held now given
   pub preserved : KeepsRuns (verdict_of_words s list table held) s list given now.out

@@ -14,7 +14,7 @@ pub mod words;
 use crate::statics::Static;
 use mir::config::Settings;
 use mir::refusal::Refusal;
-use questions::check;
+use questions::check_start;
 use walks::Counts;
 
 // Question 4: whether the lent slices are long enough, by the numbers of their words and of the entries for statics.
@@ -46,6 +46,6 @@ pub fn optimize(
     ensures { Optimized settings list.now table.now (lent_statics out.old statics.old set.old) (lent_statics out.new statics.new set.new) result }
 {
     let room = has_room(list.len(), table.len(), out.len(), statics.len(), set.len());
-    check(list, table, settings, room)?;
-    Ok(sized::reduce_sized(list, table, settings, out, statics, set))
+    check_start(settings, list.len(), table.len(), room)?;
+    sized::reduce_sized(list, table, settings, out, statics, set)
 }

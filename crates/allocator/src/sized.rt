@@ -1,16 +1,17 @@
-// Working space for the colours and the ends, in classes by how many records a list has: 512, 4,096 and 65,536. A list
-// takes the space of its class and no more.
-ghost use Rattle.std.specs.Prelude.{◌*◌, ◌/◌, ◌≤◌, length};
-ghost use Rattle.passes.specs.Machine.{Passing};
+// Working space for the colours and the ends, in classes by how many records a list has: 768, 5,120 and 65,536, as the first walk has
+// them. A list takes the space of its class and no more.
+ghost use Rattle.std.specs.Prelude.{◌*◌, ◌/◌, ◌≤◌, ◌≡◌, true, length};
+ghost use Rattle.mir.specs.Answers as verdict;
+ghost use Rattle.mir.specs.Inner.{start_refusal, list_refusal};
 ghost use Rattle.walks.specs.Walks.{Roomy};
-ghost use Rattle.allocator.specs.Optimize.{lent_statics};
-ghost use Rattle.allocator.specs.Sized.{Written};
+ghost use Rattle.allocator.specs.Optimize.{LeavesStatics, lent_statics};
 
 use crate::statics::{Static, write_statics};
 use mir::config::Settings;
+use mir::refusal::Refusal;
 use walks::{Counts, reduce};
 
-// The walks with working space that is lent, and the statics written from it.
+// The walks with working space that is lent, and the statics of a list that passes written from it.
 fn reduce_with(
     list: &[u32],
     table: &[u32],
@@ -20,16 +21,16 @@ fn reduce_with(
     set: &mut [u32],
     colours: &mut [u32],
     ends: &mut [u32],
-) -> Counts
-    requires passing { Passing settings list.now table.now }
+) -> Result<Counts, Refusal>
+    requires started { start_refusal true settings (length list.now) (length table.now) ≡ verdict.Passed }
     requires roomy { Roomy (length list.now) (length table.now) (length out.old) (length statics.old) (length statics.old) (length set.old) }
     requires colours_room { length list.now / 8 * 2 ≤ length colours.old }
     requires ends_room { length list.now / 8 * 2 ≤ length ends.old }
-    ensures { Written settings list.now table.now (lent_statics out.old statics.old set.old) (lent_statics out.new statics.new set.new) result }
+    ensures { LeavesStatics (list_refusal settings.count_regs list.now table.now) settings list.now table.now (lent_statics out.old statics.old set.old) (lent_statics out.new statics.new set.new) result }
 {
-    let counts = reduce(list, table, settings, out, colours, ends, set);
+    let counts = reduce(list, table, settings, out, colours, ends, set)?;
     write_statics(colours, ends, counts.statics as usize, statics);
-    counts
+    Ok(counts)
 }
 
 // Kept out of its caller's frame, or a short list would take the stack of a long one.
@@ -41,12 +42,12 @@ fn reduce_in<const N: usize>(
     out: &mut [u32],
     statics: &mut [Static],
     set: &mut [u32],
-) -> Counts
-    requires passing { Passing settings list.now table.now }
+) -> Result<Counts, Refusal>
+    requires started { start_refusal true settings (length list.now) (length table.now) ≡ verdict.Passed }
     requires roomy { Roomy (length list.now) (length table.now) (length out.old) (length statics.old) (length statics.old) (length set.old) }
     requires space { length list.now / 8 * 2 ≤ N }
     requires small { N ≤ 131072 }
-    ensures { Written settings list.now table.now (lent_statics out.old statics.old set.old) (lent_statics out.new statics.new set.new) result }
+    ensures { LeavesStatics (list_refusal settings.count_regs list.now table.now) settings list.now table.now (lent_statics out.old statics.old set.old) (lent_statics out.new statics.new set.new) result }
 {
     let mut colours = [0u32; N];
     let mut ends = [0u32; N];
@@ -62,7 +63,7 @@ fn reduce_in<const N: usize>(
     )
 }
 
-// A list that passes, reduced in the space of its class: two words of each kind for a record.
+// A list that passes questions 1 to 4 is asked the others and reduced, in the space of its class: two words of each kind for a record.
 pub fn reduce_sized(
     list: &[u32],
     table: &[u32],
@@ -70,16 +71,16 @@ pub fn reduce_sized(
     out: &mut [u32],
     statics: &mut [Static],
     set: &mut [u32],
-) -> Counts
-    requires passing { Passing settings list.now table.now }
+) -> Result<Counts, Refusal>
+    requires started { start_refusal true settings (length list.now) (length table.now) ≡ verdict.Passed }
     requires roomy { Roomy (length list.now) (length table.now) (length out.old) (length statics.old) (length statics.old) (length set.old) }
-    ensures { Written settings list.now table.now (lent_statics out.old statics.old set.old) (lent_statics out.new statics.new set.new) result }
+    ensures { LeavesStatics (list_refusal settings.count_regs list.now table.now) settings list.now table.now (lent_statics out.old statics.old set.old) (lent_statics out.new statics.new set.new) result }
 {
     let records = list.len() / 8;
-    if records <= 512 {
-        reduce_in::<1024>(list, table, settings, out, statics, set)
-    } else if records <= 4096 {
-        reduce_in::<8192>(list, table, settings, out, statics, set)
+    if records <= 768 {
+        reduce_in::<1_536>(list, table, settings, out, statics, set)
+    } else if records <= 5_120 {
+        reduce_in::<10_240>(list, table, settings, out, statics, set)
     } else {
         reduce_in::<131_072>(list, table, settings, out, statics, set)
     }

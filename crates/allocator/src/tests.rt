@@ -5,7 +5,7 @@ use crate::words::optimize_words;
 use mir::config::Settings;
 
 // One more than the two lower classes have.
-const RECORDS: usize = 4097;
+const RECORDS: usize = 5_121;
 
 // Whether a list of constants, each of which makes a static that nobody reads, has the same entries as words.
 fn agrees(records: usize) -> bool {
@@ -50,7 +50,7 @@ fn agrees(records: usize) -> bool {
 
 #[test]
 fn each_class_has_space(rt: HostRuntime) {
-    for records in [0, 1, 512, 513, 4096, 4097] {
+    for records in [0, 1, 768, 769, 5_120, 5_121] {
         assert!(rt; agrees(records), "at {records}");
     }
 }

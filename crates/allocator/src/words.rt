@@ -5,7 +5,7 @@ ghost use Rattle.allocator.specs.Optimize.{OptimizedWords};
 use crate::has_room;
 use mir::config::Settings;
 use mir::refusal::Refusal;
-use questions::check;
+use questions::check_start;
 use walks::{Counts, reduce};
 
 // The list reduced, at the start of `out`; each static's colour and end, and the read set. The shorter slice says how many
@@ -28,6 +28,6 @@ pub fn optimize_words(
         colours.len().min(ends.len()),
         set.len(),
     );
-    check(list, table, settings, room)?;
-    Ok(reduce(list, table, settings, out, colours, ends, set))
+    check_start(settings, list.len(), table.len(), room)?;
+    reduce(list, table, settings, out, colours, ends, set)
 }

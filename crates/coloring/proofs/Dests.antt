@@ -1,4 +1,4 @@
--- The third walk on the lent slices: a record's destinations change what the slices of colours and ends start with as
+-- The second walk on the lent slices: a record's destinations change what the slices of colours and ends start with as
 -- `after_dests` does, and leave a mark at each end whose static was found.
 -- By the laws of a slice that starts with words, destination by destination.
 use Rattle.passes.specs.declared.symbol.Loc.{Loc}
@@ -130,20 +130,24 @@ module _ (n i : ℕ) (E C0 E0 : List ℕ) (wide : length E ≤ length C0) (small
       ch : Choice
       ch = choice_for n i held st
 
+      new : Coloring
+      new =
+          record {
+            allocs = assign st.allocs (chosen ch) (get_or E (length st.colours) 0) held;
+            colours = st.colours ++ chosen ch ∷ [];
+            members = st.members;
+          }
+
       go : (b : Bool) → next + cond b 1 0 ≤ length E
           → cond b (record {
             allocs = assign st.allocs (chosen (choose n i held st.allocs)) (get_or (over (marked fs E) E0) next 0) held;
             colours = set (over st.colours C0) next (chosen (choose n i held st.allocs));
             ends = set (over (marked fs E) E0) next (get_or (over (marked fs E) E0) next 0 + mark (is_found (choose n i held st.allocs)));
           }) (at st fs)
-          ≡ at (cond b (record {
-            allocs = assign st.allocs (chosen ch) (get_or E (length st.colours) 0) held;
-            colours = st.colours ++ chosen ch ∷ [];
-            members = st.members;
-          }) st) (fs ++ cond b (is_found ch ∷ []) [])
+          ≡ at (cond b new st) (fs ++ cond b (is_found ch ∷ []) [])
       go false l = rw (append-nil fs) refl
       go true l =
-          slices_same (at (record { allocs = assign st.allocs (chosen ch) (get_or E (length st.colours) 0) held; colours = st.colours ++ chosen ch ∷ []; members = st.members }) (fs ++ is_found ch ∷ []))
+          slices_same (at new (fs ++ is_found ch ∷ []))
           (ap (λ k. assign st.allocs (chosen ch) k held) (end_at fs next (omega (arith, f)) (omega arith) ∙ ap (λ k. get_or E k 0) e))
           (ap (λ k. set (over st.colours C0) k (chosen ch)) e ∙ over_next st.colours C0 (chosen ch) (omega (arith, e)))
           (ap (λ v. set (over (marked fs E) E0) next (v + mark (is_found ch))) (end_at fs next (omega (arith, f)) (omega arith))
@@ -158,7 +162,15 @@ module _ (n i : ℕ) (E C0 E0 : List ℕ) (wide : length E ≤ length C0) (small
       ch : Choice
       ch = choice_for n i held st
 
-      go : (b : Bool) → length (cond b (record { allocs = assign st.allocs (chosen ch) (get_or E (length st.colours) 0) held; colours = st.colours ++ chosen ch ∷ []; members = st.members }) st).colours ≡ length st.colours + cond b 1 0
+      new : Coloring
+      new =
+          record {
+            allocs = assign st.allocs (chosen ch) (get_or E (length st.colours) 0) held;
+            colours = st.colours ++ chosen ch ∷ [];
+            members = st.members;
+          }
+
+      go : (b : Bool) → length (cond b new st).colours ≡ length st.colours + cond b 1 0
       go true = length-append st.colours (chosen ch ∷ [])
       go false = sym (add-zero (length st.colours))
 

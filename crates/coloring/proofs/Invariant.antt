@@ -1,6 +1,6 @@
--- The third walk: what its loop keeps, what a record may be asked for, and that the record takes it to the next.
+-- The second walk: what its loop keeps, what a record may be asked for, and that the record takes it to the next.
 -- The lent slices are those of the definitions at i; a record takes them on, and the members grow by what it reads.
-use Prim.Native.Nat.{ℕ, suc, ◌+◌, ◌-◌, ◌*◌, ◌/◌, ◌<◌, ◌≤◌}
+use Prim.Native.Nat.{ℕ, suc, ◌+◌, ◌*◌, ◌/◌, ◌<◌, ◌≤◌}
 use mathlib.Core.Bool.{Bool, true}
 use mathlib.Core.List.{List}
 use mathlib.Core.Path.{◌≡◌, refl, sym, ap, subst, ◌∙◌}
@@ -14,10 +14,9 @@ use Rattle.mir.specs.Renaming.{regs_to}
 use Rattle.mir.specs.Shapes.{any, dests}
 use Rattle.mir.proofs.Passing.{ListPasses}
 use Rattle.mir.specs.declared.rename.Renaming.{Renaming}
-use Rattle.mir.proofs.Renaming.{Walked, statics_two}
+use Rattle.mir.proofs.Renaming.{statics_two}
 use Rattle.passes.specs.Color.{setup, loc_of, joined, found_at, color_to}
 use Rattle.passes.specs.Create.{ends_of}
-use Rattle.passes.specs.Machine.{Passing}
 use Rattle.theorems.proofs.Create.{ends_fit}
 use Rattle.theorems.proofs.ReadSet.{reads_at, members_next}
 use Rattle.theorems.proofs.Members.{few_members}
@@ -115,7 +114,8 @@ module _ {s : Settings} {list table C0 E0 : List ℕ} {S0 : ReadSet} where
               subst (λ σ. SlicesAre s.count_regs i σ after cs es)
               (rw (lent_are h, inv.walked.regs_are, inv.walked.statics_are, e) (record_step_lem s list table (passes inv.called) C0 E0 (wide inv.called) i l))
 
-        pub found_gives : {found : Bool} {after : State} → found ≡ was_found (dests rec) r.statics after.ends → Holds s list table C0 E0 (i + 1) i after → found ≡ found_at (setup s list table) i (color_to (setup s list table) i)
+        pub found_gives : {found : Bool} {after : State} → found ≡ was_found (dests rec) r.statics after.ends → Holds s list table C0 E0 (i + 1) i after
+            → found ≡ found_at (setup s list table) i (color_to (setup s list table) i)
         found_gives f h = f ∙ rw (h.ends, inv.walked.statics_are, e) (found_after s list table (passes inv.called) C0 E0 (wide inv.called) i l)
 
         module _ {found : Bool} (f : found ≡ found_at (setup s list table) i (color_to (setup s list table) i)) where

@@ -1,4 +1,4 @@
--- The third walk: from the parts of a record to the loop.
+-- The second walk: from the parts of a record to the loop.
 pub mod Sources
 pub mod Dests
 pub mod Record

@@ -1,4 +1,4 @@
--- Inner: what the third walk does to the colours' state and the lent slices.
+-- Inner: what the second walk does to the colours' state and the lent slices.
 use Rattle.std.specs.Prelude.{ℕ, zero, suc, ◌+◌, ◌<◌, Bool, true, cond, ◌&&◌, not, List, [], ◌∷◌, ◌++◌, map, ◌≡◌, leb, eqb, length, get_or, set, Option}
 use Rattle.mir.specs.declared.config.Settings.{Settings}
 use Rattle.mir.specs.Records.{records, is_gen, word_at}

@@ -1,4 +1,4 @@
--- Inner: what the third walk keeps from record to record, in the definitions' words.
+-- Inner: what the second walk keeps from record to record, in the definitions' words.
 use Rattle.std.specs.Prelude.{ℕ, ◌+◌, ◌-◌, ◌*◌, ◌/◌, ◌<◌, ◌≤◌, List, ◌≡◌, length}
 use Rattle.mir.specs.declared.config.Settings.{Settings}
 use Rattle.mir.specs.Answers.{over}

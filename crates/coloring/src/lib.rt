@@ -1,4 +1,4 @@
-// The third walk (document 01, section 3): each static's colour, and the read set.
+// The second walk (document 01, section 3): each static's colour, and the read set.
 #![tactic(auto)]
 
 ghost use Rattle.std.specs.Prelude.{ℕ, ◌+◌, ◌*◌, ◌/◌, ◌<◌, ◌≤◌, true, cond, ◌&&◌, List, [], ◌∷◌, leb, ◌≡◌, length, get_or};
@@ -21,6 +21,7 @@ ghost use Rattle.passes.specs.Machine.{Passing};
 
 use colours::allocs::{Allocs, partner};
 use colours::pool::{NOTHING, word_of};
+use lives::by_kind;
 use mir::config::Settings;
 use mir::record::{Record, records_of};
 use mir::rename::{Renaming, count_static, static_of};
@@ -199,9 +200,9 @@ fn color_dests(
     }
 }
 
-// A record whose action looks at the colours' locations, or changes them.
+// One record.
 #[inline(always)]
-fn color_acting(
+fn color_record(
     allocs: &mut Allocs,
     kind: u32,
     rec: &Record,
@@ -239,44 +240,6 @@ fn color_acting(
         ends,
     );
     allocs.update(action, l, x, y);
-}
-
-// One record. Most want no location, and change the colours by their destinations alone.
-#[inline(always)]
-fn color_record(
-    allocs: &mut Allocs,
-    kind: u32,
-    rec: &Record,
-    renaming: &Renaming,
-    i: u32,
-    colours: &mut [u32],
-    ends: &mut [u32],
-)
-    requires kind_is { kind ≡ word_at rec.now 0 }
-    requires partner_fits { partner_fits rec.now ≡ true }
-    requires space_bound { (loc_of rec.now).space < any }
-    requires coloured { Coloured allocs.old.count (source_words renaming.now.regs colours.old rec.now) }
-    requires masked { Masked allocs.old.count i allocs.old.masks (allocs_in allocs.old.lives allocs.old.locs) }
-    requires colours_room { renaming.now.statics + 2 ≤ length colours.old }
-    requires ends_room { renaming.now.statics + 2 ≤ length ends.old }
-    requires ready { Ready allocs.old.count i renaming.now.statics (wanted_by renaming.now.regs rec.now (slices_in allocs.old colours.old ends.old)) (slices_in allocs.old colours.old ends.old) }
-    ensures { SlicesAre allocs.old.count i (record_step allocs.old.count i renaming.now.statics renaming.now.regs rec.now (slices_in allocs.old colours.old ends.old)) allocs.new colours.new ends.new }
-{
-    let s = shape_of(kind);
-    match s.action {
-        Action::Other | Action::LoadArgs => color_dests(
-            allocs,
-            kind,
-            rec,
-            NOTHING,
-            NOTHING,
-            i,
-            renaming.statics,
-            colours,
-            ends,
-        ),
-        _ => color_acting(allocs, kind, rec, renaming, i, colours, ends),
-    }
 }
 
 // Whether every destination was found; `next` is the record's first static, and y's comes after it, since x's counts only if it is
@@ -377,8 +340,7 @@ fn color_turn(
     renaming.pass(kind, rec);
 }
 
-// The turn of the record's kind: in each arm the kind is a number that is written down, and so are the places of its words, which
-// makes a body without jumps of each.
+// The turn of the record's kind.
 fn color_by_kind(
     rec: &Record,
     table: &[u32],
@@ -392,30 +354,10 @@ fn color_by_kind(
     requires { MayTurn table.now i rec.now (state allocs.old colours.old ends.old) set.old renaming.old }
     ensures { Turned table.now i rec.now (state allocs.old colours.old ends.old) set.old renaming.old (state allocs.new colours.new ends.new) set.new renaming.new }
 {
-    match rec[0] {
-        0 => color_turn(0, rec, table, i, renaming, allocs, colours, ends, set),
-        1 => color_turn(1, rec, table, i, renaming, allocs, colours, ends, set),
-        2 => color_turn(2, rec, table, i, renaming, allocs, colours, ends, set),
-        3 => color_turn(3, rec, table, i, renaming, allocs, colours, ends, set),
-        4 => color_turn(4, rec, table, i, renaming, allocs, colours, ends, set),
-        5 => color_turn(5, rec, table, i, renaming, allocs, colours, ends, set),
-        6 => color_turn(6, rec, table, i, renaming, allocs, colours, ends, set),
-        7 => color_turn(7, rec, table, i, renaming, allocs, colours, ends, set),
-        8 => color_turn(8, rec, table, i, renaming, allocs, colours, ends, set),
-        9 => color_turn(9, rec, table, i, renaming, allocs, colours, ends, set),
-        10 => color_turn(10, rec, table, i, renaming, allocs, colours, ends, set),
-        11 => color_turn(11, rec, table, i, renaming, allocs, colours, ends, set),
-        12 => color_turn(12, rec, table, i, renaming, allocs, colours, ends, set),
-        13 => color_turn(13, rec, table, i, renaming, allocs, colours, ends, set),
-        14 => color_turn(14, rec, table, i, renaming, allocs, colours, ends, set),
-        15 => color_turn(15, rec, table, i, renaming, allocs, colours, ends, set),
-        16 => color_turn(16, rec, table, i, renaming, allocs, colours, ends, set),
-        17 => color_turn(17, rec, table, i, renaming, allocs, colours, ends, set),
-        18 => color_turn(18, rec, table, i, renaming, allocs, colours, ends, set),
-        19 => color_turn(19, rec, table, i, renaming, allocs, colours, ends, set),
-        20 => color_turn(20, rec, table, i, renaming, allocs, colours, ends, set),
-        kind => color_turn(kind, rec, table, i, renaming, allocs, colours, ends, set),
-    }
+    by_kind!(
+        rec,
+        color_turn(rec, table, i, renaming, allocs, colours, ends, set)
+    )
 }
 
 // Each static's colour, in order, and the read set; an end whose static was found is left marked. Gives the number of statics.

@@ -2,7 +2,9 @@
 use Rattle.std.specs.Prelude.{ℕ, zero, suc, ◌+◌, ◌*◌, ◌/◌, ◌%◌, ◌^◌, Bool, cond, not, ◌&&◌, List, [], ◌∷◌, ◌++◌, Option, Some, None, Result, ◌≡◌, eqb, leb, length, get_or, take}
 use Rattle.walks.specs.declared.Counts.{Counts}
 use Rattle.mir.specs.declared.refusal.Refusal.{Refusal}
-use Rattle.allocator.specs.Optimize.{report, records_in, left}
+use Rattle.mir.specs.Answers.{left}
+use Rattle.walks.specs.Lent.{report}
+use Rattle.allocator.specs.Optimize.{records_in}
 use Rattle.mir.specs.declared.config.Settings.{Settings}
 use Rattle.mir.specs.Answers.{Verdict}
 use Rattle.mir.specs.Answers.{Passed, Refused}

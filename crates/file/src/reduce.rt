@@ -1,18 +1,18 @@
 // A file reduced: the sections are read into working space, questioned and reduced.
 ghost use Rattle.std.specs.Prelude.{◌+◌, ◌*◌, ◌≤◌, true, Some, ◌≡◌, length};
-ghost use Rattle.mir.specs.Answers.{unless, over};
+ghost use Rattle.mir.specs.Answers.{left, unless};
+ghost use Rattle.mir.specs.Answers as verdict;
+ghost use Rattle.mir.specs.Inner.{start_refusal, list_refusal};
 ghost use Rattle.mir.specs.Questions.{refusal};
 ghost use Rattle.passes.specs.Contract.{reduced, counts_of};
-ghost use Rattle.passes.specs.Machine.{Passing};
-ghost use Rattle.walks.specs.Lent.{values_in};
-ghost use Rattle.allocator.specs.Optimize.{report, left};
+ghost use Rattle.walks.specs.Lent.{report};
 ghost use Rattle.file.specs.File.{FileReduced, settings_in, file_counts, file_reduced, file_verdict, layout_of};
 
 use crate::layout::{Layout, layout_of, read_words, word_at};
 use crate::settings_of;
 use mir::config::Settings;
 use mir::refusal::{Question, Refusal};
-use questions::check;
+use questions::check_start;
 use walks::{Counts, reduce};
 
 // The most words that a file's list and table have, and the working space for them, which is fixed: reducing takes no heap.
@@ -24,14 +24,19 @@ const STATICS: usize = 1024;
 
 const SET: usize = 3072;
 
-// A list of a file's size that passes, reduced with working space for its statics and its read set.
-fn reduce_in_space(list: &[u32], table: &[u32], settings: Settings, out: &mut [u32]) -> Counts
+// A list of a file's size that passes questions 1 to 4, asked the others and reduced, with working space for its statics and its read set.
+fn reduce_in_space(
+    list: &[u32],
+    table: &[u32],
+    settings: Settings,
+    out: &mut [u32],
+) -> Result<Counts, Refusal>
     requires list_len_bound { length list.now ≤ 4096 }
     requires table_len_bound { length table.now ≤ 1024 }
     requires out_room { length list.now ≤ length out.old }
-    requires passing { Passing settings list.now table.now }
-    ensures counts { values_in result ≡ counts_of settings list.now table.now }
-    ensures out { out.new ≡ over (reduced settings list.now table.now) out.old }
+    requires started { start_refusal true settings (length list.now) (length table.now) ≡ verdict.Passed }
+    ensures answer { report result ≡ unless (list_refusal settings.count_regs list.now table.now) (counts_of settings list.now table.now) }
+    ensures out { out.new ≡ left (list_refusal settings.count_regs list.now table.now) (reduced settings list.now table.now) out.old }
 {
     let mut colours = [0u32; STATICS];
     let mut ends = [0u32; STATICS];
@@ -61,8 +66,8 @@ fn reduce_list(
     ensures answer { report result ≡ unless (refusal room settings list.now table.now) (counts_of settings list.now table.now) }
     ensures out { out.new ≡ left (refusal room settings list.now table.now) (reduced settings list.now table.now) out.old }
 {
-    check(list, table, settings, room)?;
-    Ok(reduce_in_space(list, table, settings, out))
+    check_start(settings, list.len(), table.len(), room)?;
+    reduce_in_space(list, table, settings, out)
 }
 
 fn settings_at(file: &[u8]) -> Settings

@@ -58,9 +58,11 @@ pub ends_next : {list : List ℕ} {i : ℕ} {r : Renaming} {rec : List ℕ} {mad
 unfolding ends_to
 ends_next {list} {i} w e m old =
     let regs = regs_to list i in
+    let fresh = gens (dests (record_at list i)) in
+    let here = replicate fresh i in
     let read = consumed regs i (sources (record_at list i)) (ends_to list i) in
     let below : Known regs (length (ends_to list i)) = rw (ends_length list i) (names_to list i).below in
     let first : statics_to list i ≡ length read = sym (consumed_length regs i (sources (record_at list i)) (ends_to list i) ∙ ends_length list i) in
     rw (add-one i, w.regs_are, w.statics_are, m, e)
-    (ap (λ xs. put_mid (statics_to list i) (gens (dests (record_at list i))) xs (replicate (gens (dests (record_at list i))) i)) (consumed_over regs i (sources (record_at list i)) (ends_to list i) old below)
-    ∙ over_part read (replicate (gens (dests (record_at list i))) i) old _ _ first (sym (length-replicate (gens (dests (record_at list i))) i)))
+    (ap (λ xs. put_mid (statics_to list i) fresh xs here) (consumed_over regs i (sources (record_at list i)) (ends_to list i) old below)
+    ∙ over_part read here old _ _ first (sym (length-replicate fresh i)))

@@ -3,6 +3,7 @@ pub mod BranchCases
 pub mod Clash
 pub mod Asked
 pub mod Folds
+pub mod LeftCases
 pub mod Limits
 pub mod Masks
 pub mod Over

@@ -2,9 +2,9 @@
 -- By the answers' cases; the register questions carry over from fewer registers to more.
 use Rattle.std.specs.Prelude.{Option}
 use Prim.Native.Nat.{ℕ, zero, suc, ◌%◌, ◌≤◌, ◌<◌}
-use mathlib.Core.Bool.{Bool, true, false, cond, ◌&&◌}
+use mathlib.Core.Bool.{Bool, true, false, cond, ◌&&◌, and-false}
 use mathlib.Core.List.{List, [], ◌∷◌, ◌++◌, map}
-use mathlib.Core.Path.{◌≡◌, refl, ap, ◌∙◌}
+use mathlib.Core.Path.{◌≡◌, refl, sym, ap, ◌∙◌}
 use native.Mathlib.Omega.{arith}
 use lib.ListN.{length, get_or, set}
 use lib.Dec.{ltb, leb, eqb}
@@ -20,7 +20,7 @@ use Rattle.mir.specs.Records.{is_gen, max_regs, records, record_at}
 use Rattle.mir.specs.Renaming.{regs_to}
 use Rattle.mir.specs.Shapes.{shape_for, dests, sources, registers}
 use Rattle.mir.proofs.Clash.{clash}
-use Rattle.mir.specs.Inner.{source_passes}
+use Rattle.mir.specs.Inner.{source_passes, start_refusal, list_refusal}
 use Rattle.mir.proofs.Folds.{all_append, all_at, both_passed, none_refused, refusal_none}
 use Rattle.mir.proofs.Renaming.{registers_are, and_both}
 
@@ -109,23 +109,41 @@ all_weaker p q f (w ∷ ws) h =
     let b = and_both (p w) (list_all p ws) h in
     rw (f w b.0, all_weaker p q f ws b.1)
 
--- sources of which each passes what the questions ask of it
-module _ (n : ℕ) (regs : List (Option ℕ)) (past : ℕ) where
-  each_source : (w : ℕ) → source_passes n regs past w ≡ true → (gen_fits n w ≡ true) × (named regs w ≡ true) × (since past regs w ≡ true)
-  each_source w h =
-      let b = and_both (gen_fits n w) (named regs w && since past regs w) h in
-      let more = and_both (named regs w) (since past regs w) b.1 in
-      (b.0, more.0, more.1)
+-- both of each word, as each of all words
+all_and : (p q : ℕ → Bool) (ws : List ℕ) → list_all (λ w. p w && q w) ws ≡ (list_all p ws && list_all q ws)
+all_and p q [] = refl
+all_and p q (w ∷ ws) = go (p w) (q w) (all_and p q ws)
+  where
+    both : Bool
+    both = list_all (λ v. p v && q v) ws
 
-  -- the parts that are asked at once are the questions
-  pub record_passes_at_once : (table rec : List ℕ) → known_kind rec ≡ true → fields_fit table rec ≡ true → partner_fits rec ≡ true
-      → list_all (gen_fits n) (dests rec) ≡ true → list_all (source_passes n regs past) (sources rec) ≡ true → record_no table n regs past rec ≡ 0
-  unfolding record_no gens_fit sources_named sources_since
-  record_passes_at_once table rec kind fields partner d s =
-      let fit = all_weaker (source_passes n regs past) (gen_fits n) (λ w h. (each_source w h).0) (sources rec) s in
-      let nam = all_weaker (source_passes n regs past) (named regs) (λ w h. (each_source w h).1) (sources rec) s in
-      let sin = all_weaker (source_passes n regs past) (since past regs) (λ w h. (each_source w h).2) (sources rec) s in
-      rw (kind, fields, partner, registers_are, all_append, d, fit, nam, sin) refl
+    go : (a b : Bool) → both ≡ (list_all p ws && list_all q ws) → ((a && b) && both) ≡ ((a && list_all p ws) && (b && list_all q ws))
+    go false b h = refl
+    go true true h = h
+    go true false h = sym (and-false (list_all p ws))
+
+-- a record passes if the parts that are asked at once say so
+pub passes_at_once : (table : List ℕ) (n : ℕ) (regs : List (Option ℕ)) (past : ℕ) (rec : List ℕ)
+    → eqb (record_no table n regs past rec) 0
+    ≡ (known_kind rec && (fields_fit table rec && (partner_fits rec && (list_all (gen_fits n) (dests rec) && list_all (source_passes n regs past) (sources rec)))))
+unfolding record_no gens_fit sources_named sources_since
+passes_at_once table n regs past rec =
+    let more : ℕ → Bool = λ w. named regs w && since past regs w in
+    rw (registers_are, all_append, all_and (gen_fits n) more (sources rec), all_and (named regs) (since past regs) (sources rec))
+    (go (known_kind rec) (fields_fit table rec) (partner_fits rec) (list_all (gen_fits n) (dests rec)) (list_all (gen_fits n) (sources rec))
+    (list_all (named regs) (sources rec)) (list_all (since past regs) (sources rec)))
+  where
+    go : (kind fields partner d s nam sin : Bool)
+        → eqb (first_no ((5, kind) ∷ (6, fields) ∷ (7, d && s) ∷ (8, partner) ∷ (9, nam) ∷ (15, sin) ∷ [])) 0
+        ≡ (kind && (fields && (partner && (d && (s && (nam && sin))))))
+    go false fields partner d s nam sin = refl
+    go true false partner d s nam sin = refl
+    go true true partner false s nam sin = sym (and-false partner)
+    go true true partner true false nam sin = sym (and-false partner)
+    go true true false true true nam sin = refl
+    go true true true true true false sin = refl
+    go true true true true true true false = refl
+    go true true true true true true true = refl
 
 gen_fits_more : (n m w : ℕ) → n ≤ m → gen_fits n w ≡ true → gen_fits m w ≡ true
 gen_fits_more n m w l h = go (is_gen w) h
@@ -185,18 +203,16 @@ sizes_pass room count_regs list table h =
     let y = each_yes asked tt (none_refused _ 0 h) in
     record { few = leb-true count_regs max_regs y.0; sized = y.1.0; roomy = y.1.1.0 }
 
--- the questions that come before any record, one after the other
+-- the questions that come before any record, and those that are put to the records
 pub refusal_parts : (room : Bool) (s : Settings) (list table : List ℕ)
-    → refusal room s list table
-    ≡ or_else (count_refusal s.count_regs)
-    (or_else (args_refusal s.args)
-    (or_else (lengths_refusal room (length list) (length table)) (or_else (record_refusal table s.count_regs list) (branch_refusal list))))
+    → refusal room s list table ≡ or_else (start_refusal room s (length list) (length table)) (list_refusal s.count_regs list table)
 unfolding refusal
-refusal_parts room s list table = go (few_registers s.count_regs) (few_args s.args) (well_sized (length list) (length table)) room (or_else (record_refusal table s.count_regs list) (branch_refusal list))
+refusal_parts room s list table =
+    go (few_registers s.count_regs) (few_args s.args) (well_sized (length list) (length table)) room (list_refusal s.count_regs list table)
   where
     go : (a b c d : Bool) (v : Verdict)
         → or_else (refused_at (first_no ((1, a) ∷ (2, b) ∷ (3, c) ∷ (4, d) ∷ [])) 0) v
-        ≡ or_else (refused_at (first_no ((1, a) ∷ [])) 0) (or_else (refused_at (first_no ((2, b) ∷ [])) 0) (or_else (refused_at (first_no ((3, c) ∷ (4, d) ∷ [])) 0) v))
+        ≡ or_else (or_else (refused_at (first_no ((1, a) ∷ [])) 0) (or_else (refused_at (first_no ((2, b) ∷ [])) 0) (refused_at (first_no ((3, c) ∷ (4, d) ∷ [])) 0))) v
     go false b c d v = refl
     go true false c d v = refl
     go true true false d v = refl
@@ -215,13 +231,42 @@ sizes_parts room count_regs list table = go (few_registers count_regs)
     go false = refl
     go true = refl
 
--- what a yes to questions 1, 3 and 4 says
-pub count_few : (count_regs : ℕ) → count_refusal count_regs ≡ Passed → count_regs ≤ max_regs
-unfolding few_registers
-count_few count_regs h = leb-true count_regs max_regs (each_yes ((1, few_registers count_regs) ∷ []) tt (none_refused _ 0 h)).0
+-- questions 1 to 4; `list` and `table` are lengths
+pub record StartPasses (room : Bool) (s : Settings) (list table : ℕ) : Type 0 where
+  pub few : s.count_regs ≤ max_regs
+  pub sized : well_sized list table ≡ true
+  pub roomy : room ≡ true
 
-pub lengths_sized : (list table : ℕ) (room : Bool) → lengths_refusal room list table ≡ Passed → well_sized list table ≡ true
-lengths_sized list table room h = (each_yes ((3, well_sized list table) ∷ (4, room) ∷ []) tt (none_refused _ 0 h)).0
+pub start_passes : (room : Bool) (s : Settings) (list table : ℕ) → start_refusal room s list table ≡ Passed → StartPasses room s list table
+unfolding few_registers
+start_passes room s list table h =
+    let a = both_passed (count_refusal s.count_regs) (or_else (args_refusal s.args) (lengths_refusal room list table)) h in
+    let b = both_passed (args_refusal s.args) (lengths_refusal room list table) a.1 in
+    let y = each_yes ((3, well_sized list table) ∷ (4, room) ∷ []) tt (none_refused _ 0 b.1) in
+    record {
+      few = leb-true s.count_regs max_regs (each_yes ((1, few_registers s.count_regs) ∷ []) tt (none_refused _ 0 a.0)).0;
+      sized = y.0;
+      roomy = y.1.0;
+    }
+
+-- after them the records decide, and without room no record is asked
+pub refusal_after : (room : Bool) (s : Settings) (list table : List ℕ) → start_refusal room s (length list) (length table) ≡ Passed
+    → refusal room s list table ≡ list_refusal s.count_regs list table
+refusal_after room s list table h = refusal_parts room s list table ∙ ap (λ v. or_else v (list_refusal s.count_regs list table)) h
+
+pub refusal_without : (s : Settings) (list table : List ℕ) → refusal false s list table ≡ start_refusal false s (length list) (length table)
+refusal_without s list table =
+    refusal_parts false s list table
+    ∙ go (few_registers s.count_regs) (few_args s.args) (well_sized (length list) (length table)) (list_refusal s.count_regs list table)
+  where
+    start : Bool → Bool → Bool → Verdict
+    start a b c = or_else (refused_at (first_no ((1, a) ∷ [])) 0) (or_else (refused_at (first_no ((2, b) ∷ [])) 0) (refused_at (first_no ((3, c) ∷ (4, false) ∷ [])) 0))
+
+    go : (a b c : Bool) (v : Verdict) → or_else (start a b c) v ≡ start a b c
+    go false b c v = refl
+    go true false c v = refl
+    go true true false v = refl
+    go true true true v = refl
 
 pub record ListPasses (s : Settings) (list table : List ℕ) : Type 0 where
   pub few : s.count_regs ≤ max_regs

@@ -9,13 +9,12 @@ use mathlib.Core.Path.{◌≡◌, refl, sym, ap, subst, ◌∙◌}
 use native.Mathlib.Nat.{zero-add, add-zero, suc-add, add-suc}
 use native.Mathlib.Decide.{dec_lt}
 use native.Mathlib.Omega.{arith}
-use Rattle.std.proofs.Math.Nat.{min-eq_right}
 use lib.ListN.{length, get_or, get_or-eq_default}
 use Rattle.mir.specs.declared.shape.Action.{Action}
 use Rattle.mir.specs.declared.shape.Action.TheVariants as action
 use Rattle.mir.specs.declared.shape.Dests.{Dests}
 use Rattle.mir.specs.declared.shape.Shape.{Shape}
-use Rattle.mir.specs.Inner.{listed, digit_of}
+use Rattle.mir.specs.Inner.{listed}
 use Rattle.mir.specs.Records.{word_at}
 use Rattle.mir.specs.Shapes.{shape_of, shapes, bare, reg, load_args, shape_for, dests, sources}
 use Rattle.mir.specs.Folds.{all_below}
@@ -81,22 +80,6 @@ by_kind p h b k = go (dec_lt k 21)
 pub rule : (left right : Shape → ℕ) → T (each_from (λ n s. leb (left s) (right s)) 0 shapes) → T (leb (left bare) (right bare))
     → (k : ℕ) → left (shape_of k) ≤ right (shape_of k)
 rule left right h b k = leb→le _ _ (by_kind (λ n s. leb (left s) (right s)) h (λ n. b) k)
-
--- ---- the numbers of the shapes as digits of a word
-
--- a word whose digits are a field of each row, and of the shape past the end, has that field of each kind's shape
-pub digit_is : (digits : ℕ) (field : Shape → ℕ) → T (each_from (λ n s. eqb (digit_of digits n) (field s)) 0 shapes)
-    → digit_of digits 21 ≡ field bare → (k : ℕ) → digit_of digits k ≡ field (shape_of k)
-unfolding shape_of
-digit_is digits field h b k = go (dec_lt k 21)
-  where
-    go : Dec (k < 21) → digit_of digits k ≡ field (get_or shapes k bare)
-    go (yes l) =
-        let t = each_from_at (λ n s. eqb (digit_of digits n) (field s)) 0 shapes bare h k l in
-        eqb→eq _ _ (rw (add-zero k) at t)
-    go (no l) =
-        let q : 21 ≤ k = omega (arith, l) in
-        rw (get_or-eq_default shapes bare q, min-eq_right q) b
 
 -- ---- places in the record
 

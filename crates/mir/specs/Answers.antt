@@ -51,6 +51,11 @@ abbrev pub unless : Verdict → List ℕ → Report
 unless Passed values = answered values
 unless (Refused number index) values = refused number index
 
--- a slice that starts with the words, all else being what it held
-abbrev pub over : List ℕ → List ℕ → List ℕ
-over words held = words ++ drop (length words) held
+-- a slice that starts with the words or entries, all else being what it held
+abbrev pub over : {Item : Type 0} → List Item → List Item → List Item
+over items held = items ++ drop (length items) held
+
+-- and so if the list passes; a refusal changes nothing
+abbrev pub left : {Item : Type 0} → Verdict → List Item → List Item → List Item
+left Passed items held = over items held
+left (Refused number index) items held = held

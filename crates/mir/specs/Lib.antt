@@ -8,4 +8,3 @@ pub mod Branches
 pub mod Questions
 pub mod Answers
 pub mod Inner
-pub mod Asked

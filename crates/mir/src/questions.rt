@@ -4,16 +4,15 @@ ghost use Rattle.std.specs.Prelude.{◌+◌, ◌≤◌, ◌<◌, cond, true, [],
 ghost use Rattle.mir.specs.Answers.{no_in, verdict_in};
 ghost use Rattle.std.specs.List.{list_all};
 ghost use Rattle.mir.specs.Folds.{first_no};
-ghost use Rattle.mir.specs.Questions.{count_refusal, lengths_refusal, well_sized, words_fit, pairs_fit, fields_fit, gen_fits, gens_fit, partner_fits, named, sources_named, since, sources_since, shape_no, record_no, record_refusal, sizes_refusal};
-ghost use Rattle.mir.specs.Records.{word_at, max_regs};
+ghost use Rattle.mir.specs.Questions.{count_refusal, lengths_refusal, well_sized, words_fit, pairs_fit, fields_fit, gen_fits, gens_fit, partner_fits, named, sources_named, since, sources_since, shape_no, record_no, sizes_refusal};
+ghost use Rattle.mir.specs.Records.{word_at};
 ghost use Rattle.mir.specs.Inner.{source_passes};
-ghost use Rattle.mir.specs.Asked.{Asked};
-ghost use Rattle.mir.specs.Shapes.{any, branch_if, dests};
+ghost use Rattle.mir.specs.Shapes.{branch_if, dests};
 
 use crate::config::MAX_REGS;
-use crate::record::{Record, records_of};
+use crate::record::Record;
 use crate::refusal::{Question, Refusal};
-use crate::rename::{Renaming, static_of};
+use crate::rename::static_of;
 use crate::shape::{
     BRANCH_IF, Dests, LOAD_ARGS, LOAD_COMPLEX, SAVE_COMPLEX, dests_of, registers_of, shape_of,
     sources_of,
@@ -223,7 +222,7 @@ fn passes(
     past: usize,
 ) -> bool
     requires { kind ≡ word_at rec.now 0 }
-    ensures { result ≡ true → record_no table.now count_regs regs.now past rec.now ≡ 0 }
+    ensures { result ≡ eqb (record_no table.now count_regs regs.now past rec.now) 0 }
 {
     if 20 < kind {
         return false;
@@ -259,6 +258,25 @@ fn find_no(
     check_sources(regs, past, rec)
 }
 
+// Questions 5 to 9 and 15, of a record whose kind is in hand.
+#[inline(always)]
+pub fn check_record(
+    kind: u32,
+    rec: &Record,
+    table: &[u32],
+    count_regs: u32,
+    regs: &[Option<u32>; MAX_REGS],
+    past: usize,
+) -> Result<(), Question>
+    requires { kind ≡ word_at rec.now 0 }
+    ensures { no_in result ≡ record_no table.now count_regs regs.now past rec.now }
+{
+    if passes(kind, rec, table, count_regs, regs, past) {
+        return Ok(());
+    }
+    find_no(rec, table, count_regs, regs, past)
+}
+
 // Question 1.
 pub fn check_count(count_regs: u32) -> Result<(), Refusal>
     ensures { verdict_in result ≡ count_refusal count_regs }
@@ -292,87 +310,8 @@ pub fn check_sizes(list: usize, table: usize, count_regs: u32, room: bool) -> Re
 
 // How many statics were written before the last BranchIf, once a record has been passed; `statics` were there before it.
 #[inline(always)]
-fn past_after(kind: u32, statics: usize, past: usize) -> usize
+pub fn past_after(kind: u32, statics: usize, past: usize) -> usize
     ensures { result ≡ cond (eqb kind branch_if) statics past }
 {
     if kind == BRANCH_IF { statics } else { past }
-}
-
-// One turn of the walk: the record is asked, and one that passes is passed. Gives how many statics were written before the last
-// BranchIf then.
-#[inline(always)]
-fn ask_turn(
-    kind: u32,
-    rec: &Record,
-    table: &[u32],
-    count_regs: u32,
-    past: usize,
-    renaming: &mut Renaming,
-) -> Result<usize, Question>
-    requires kind_is { kind ≡ word_at rec.now 0 }
-    requires few { renaming.old.statics + 1 < any }
-    ensures { Asked table.now count_regs past rec.now renaming.old renaming.new result }
-{
-    if !passes(kind, rec, table, count_regs, &renaming.regs, past) {
-        find_no(rec, table, count_regs, &renaming.regs, past)?;
-    }
-    let after = past_after(kind, renaming.statics, past);
-    renaming.pass(kind, rec);
-    Ok(after)
-}
-
-// The turn of the record's kind: in each arm the kind is a number that is written down, and so are the places of its words, which
-// makes a body without jumps of each.
-fn ask_by_kind(
-    rec: &Record,
-    table: &[u32],
-    count_regs: u32,
-    past: usize,
-    renaming: &mut Renaming,
-) -> Result<usize, Question>
-    requires { renaming.old.statics + 1 < any }
-    ensures { Asked table.now count_regs past rec.now renaming.old renaming.new result }
-{
-    match rec[0] {
-        0 => ask_turn(0, rec, table, count_regs, past, renaming),
-        1 => ask_turn(1, rec, table, count_regs, past, renaming),
-        2 => ask_turn(2, rec, table, count_regs, past, renaming),
-        3 => ask_turn(3, rec, table, count_regs, past, renaming),
-        4 => ask_turn(4, rec, table, count_regs, past, renaming),
-        5 => ask_turn(5, rec, table, count_regs, past, renaming),
-        6 => ask_turn(6, rec, table, count_regs, past, renaming),
-        7 => ask_turn(7, rec, table, count_regs, past, renaming),
-        8 => ask_turn(8, rec, table, count_regs, past, renaming),
-        9 => ask_turn(9, rec, table, count_regs, past, renaming),
-        10 => ask_turn(10, rec, table, count_regs, past, renaming),
-        11 => ask_turn(11, rec, table, count_regs, past, renaming),
-        12 => ask_turn(12, rec, table, count_regs, past, renaming),
-        13 => ask_turn(13, rec, table, count_regs, past, renaming),
-        14 => ask_turn(14, rec, table, count_regs, past, renaming),
-        15 => ask_turn(15, rec, table, count_regs, past, renaming),
-        16 => ask_turn(16, rec, table, count_regs, past, renaming),
-        17 => ask_turn(17, rec, table, count_regs, past, renaming),
-        18 => ask_turn(18, rec, table, count_regs, past, renaming),
-        19 => ask_turn(19, rec, table, count_regs, past, renaming),
-        20 => ask_turn(20, rec, table, count_regs, past, renaming),
-        kind => ask_turn(kind, rec, table, count_regs, past, renaming),
-    }
-}
-
-// Questions 5 to 9 and 15, record by record.
-pub fn check_records(list: &[u32], table: &[u32], count_regs: u32) -> Result<(), Refusal>
-    requires count_regs_le_max_regs { count_regs ≤ max_regs }
-    requires table_value { well_sized (length list.now) (length table.now) ≡ true }
-    ensures { verdict_in result ≡ record_refusal table.now count_regs list.now }
-{
-    let mut renaming = Renaming::new();
-    let mut past = 0;
-    for (i, rec) in records_of(list).iter().enumerate() {
-        // Not `map_err` and `?`: the proof does not reach what a closure gives there.
-        match ask_by_kind(rec, table, count_regs, past, &mut renaming) {
-            Ok(after) => past = after,
-            Err(question) => return Err(question.of_record(i as u32)),
-        }
-    }
-    Ok(())
 }

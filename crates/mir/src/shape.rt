@@ -1,6 +1,6 @@
 // What the words of a record are, and what the passes do with it: one decision on the kind.
 ghost use Rattle.std.specs.Prelude.{◌≡◌, get_or};
-ghost use Rattle.mir.specs.Inner.{listed, digit_of, limits, limits_in};
+ghost use Rattle.mir.specs.Inner.{listed};
 ghost use Rattle.mir.specs.Shapes.{shape_of, dests, registers, sources};
 
 use crate::record::Record;
@@ -63,78 +63,45 @@ const REG: u32 = 259;
 
 const SPC: u32 = 2;
 
-// The numbers of the kinds' shapes, an octal digit for each kind from the right. Read out of a word, a record's places need no jump
-// by its kind, as they would in a `match`, which nothing foretells.
-const REGS: u64 = 0o222100120001111112200;
-
-const DSTS: u64 = 0o211000110001020111100;
-
-const SRCS: u64 = 0o411100230000201012100;
-
-const LOCS: u64 = 0o004000400000332200000;
-
-// A kind's digit. Past the kinds the digits are 0.
-#[inline(always)]
-fn digit(digits: u64, kind: u32) -> usize
-    ensures { result ≡ digit_of digits kind }
+// A row of the table: with the fields' names at each of 21 kinds the rows could not be compared.
+fn of(action: Action, regs: usize, dsts: usize, srcs: usize, loc: usize, most: [u32; 8]) -> Shape
+    ensures { result ≡ Rattle.mir.specs.Shapes.shape action regs dsts srcs loc most }
 {
-    ((digits >> (kind.min(21) * 3)) % 8) as usize
-}
-
-// What is no number of places: the action, and the largest value of each word.
-#[derive(Clone, Copy)]
-struct Limits {
-    action: Action,
-    most: [u32; 8],
-}
-
-// With the fields' names at each of 21 kinds the rows could not be compared.
-fn of(action: Action, most: [u32; 8]) -> Limits
-    ensures { result ≡ limits action most }
-{
-    Limits { action, most }
-}
-
-fn limits_of(kind: u32) -> Limits
-    ensures { result ≡ limits_in (shape_of kind) }
-{
-    match kind {
-        0..=1 => of(Other, [20, 0, 0, 0, 0, 0, 0, 0]),
-        2 => of(Other, [20, 19, REG, REG, 0, 0, 0, 0]),
-        3 => of(Other, [20, 14, REG, REG, REG, 0, 0, 0]),
-        4 => of(Mov, [20, REG, REG, 0, 0, 0, 0, 0]),
-        5 => of(Load, [20, REG, SPC, ANY, 0, 0, 0, 0]),
-        6 => of(Save, [20, REG, SPC, ANY, 0, 0, 0, 0]),
-        7 => of(LoadComplex, [20, REG, REG, SPC, ANY, 0, 0, 0]),
-        8 => of(SaveComplex, [20, REG, REG, SPC, ANY, 0, 0, 0]),
-        9 => of(Other, [20, REG, ANY, 0, 0, 0, 0, 0]),
-        10 => of(LoadArgs, [20, ANY, ANY, 1, 1, 0, 0, 0]),
-        11 => of(Other, [20, 255, 1, 1, 0, 0, 0, 0]),
-        12 => of(Clear, [20, ANY, ANY, 0, 0, 0, 0, 0]),
-        13 => of(Other, [20, 3, REG, REG, REG, REG, 0, 0]),
-        14 => of(Other, [20, REG, REG, REG, SPC, ANY, 0, 0]),
-        15 => of(Clear, [20, ANY, 0, 0, 0, 0, 0, 0]),
-        16 => of(Clear, [20, ANY, 0, 0, 0, 0, 0, 0]),
-        17 => of(Clear, [20, REG, ANY, 1, 0, 0, 0, 0]),
-        18 => of(Other, [20, 3, REG, REG, SPC, ANY, 0, 0]),
-        19 => of(Other, [20, 3, REG, REG, ANY, 0, 0, 0]),
-        20 => of(Other, [20, 3, REG, REG, REG, REG, REG, REG]),
-        21..=ANY => of(Other, [20, 0, 0, 0, 0, 0, 0, 0]),
+    Shape {
+        action,
+        regs,
+        dsts,
+        srcs,
+        loc,
+        most,
     }
 }
 
 pub fn shape_of(kind: u32) -> Shape
     ensures { result ≡ shape_of kind }
 {
-    let limits = limits_of(kind);
-    let most = limits.most;
-    Shape {
-        action: limits.action,
-        regs: digit(REGS, kind),
-        dsts: digit(DSTS, kind),
-        srcs: digit(SRCS, kind),
-        loc: digit(LOCS, kind),
-        most,
+    match kind {
+        0..=1 => of(Other, 0, 0, 0, 0, [20, 0, 0, 0, 0, 0, 0, 0]),
+        2 => of(Other, 2, 1, 1, 0, [20, 19, REG, REG, 0, 0, 0, 0]),
+        3 => of(Other, 2, 1, 2, 0, [20, 14, REG, REG, REG, 0, 0, 0]),
+        4 => of(Mov, 1, 1, 1, 0, [20, REG, REG, 0, 0, 0, 0, 0]),
+        5 => of(Load, 1, 1, 0, 2, [20, REG, SPC, ANY, 0, 0, 0, 0]),
+        6 => of(Save, 1, 0, 1, 2, [20, REG, SPC, ANY, 0, 0, 0, 0]),
+        7 => of(LoadComplex, 1, 2, 0, 3, [20, REG, REG, SPC, ANY, 0, 0, 0]),
+        8 => of(SaveComplex, 1, 0, 2, 3, [20, REG, REG, SPC, ANY, 0, 0, 0]),
+        9 => of(Other, 1, 1, 0, 0, [20, REG, ANY, 0, 0, 0, 0, 0]),
+        10 => of(LoadArgs, 0, 0, 0, 0, [20, ANY, ANY, 1, 1, 0, 0, 0]),
+        11 => of(Other, 0, 0, 0, 0, [20, 255, 1, 1, 0, 0, 0, 0]),
+        12 => of(Clear, 0, 0, 0, 0, [20, ANY, ANY, 0, 0, 0, 0, 0]),
+        13 => of(Other, 2, 1, 3, 0, [20, 3, REG, REG, REG, REG, 0, 0]),
+        14 => of(Other, 1, 1, 2, 4, [20, REG, REG, REG, SPC, ANY, 0, 0]),
+        15 => of(Clear, 0, 0, 0, 0, [20, ANY, 0, 0, 0, 0, 0, 0]),
+        16 => of(Clear, 0, 0, 0, 0, [20, ANY, 0, 0, 0, 0, 0, 0]),
+        17 => of(Clear, 1, 0, 1, 0, [20, REG, ANY, 1, 0, 0, 0, 0]),
+        18 => of(Other, 2, 1, 1, 4, [20, 3, REG, REG, SPC, ANY, 0, 0]),
+        19 => of(Other, 2, 1, 1, 0, [20, 3, REG, REG, ANY, 0, 0, 0]),
+        20 => of(Other, 2, 2, 4, 0, [20, 3, REG, REG, REG, REG, REG, REG]),
+        21..=ANY => of(Other, 0, 0, 0, 0, [20, 0, 0, 0, 0, 0, 0, 0]),
     }
 }
 

@@ -3,14 +3,15 @@
 use Prim.Native.Nat.{ℕ, ◌<◌, ◌≤◌}
 use mathlib.Core.Bool.{false, and-true, and-false}
 use mathlib.Core.List.{List, []}
-use mathlib.Core.Path.{◌≡◌, sym}
+use mathlib.Core.Path.{◌≡◌, sym, ◌∙◌}
 use lib.ListN.{length}
 use borrow.Author.Tests.{le-leb, lt-leb}
 use Rattle.std.specs.Prelude.{Result}
 use Rattle.mir.specs.declared.refusal.Refusal.{Refusal}
 use Rattle.walks.specs.declared.Counts.{Counts}
 use Rattle.walks.specs.Lent.{Lent}
-use Rattle.allocator.specs.Optimize.{OptimizedWords, room_in_words, verdict_of_words, report, records_in}
+use Rattle.allocator.specs.Optimize.{OptimizedWords, room_in_words, verdict_of_words, records_in}
+use Rattle.walks.specs.Lent.{report}
 use Rattle.passes.specs.Contract.{counts_of}
 use Rattle.mir.specs.declared.config.Settings.{Settings}
 use Rattle.mir.specs.Answers.{Verdict}
@@ -18,7 +19,8 @@ use Rattle.mir.specs.Answers.{Passed, Refused}
 use Rattle.mir.specs.Answers.{unless}
 use Rattle.mir.specs.Questions.{refusal}
 use Rattle.mir.proofs.Clash.{clash}
-use Rattle.mir.proofs.Passing.{room_passes}
+use Rattle.mir.specs.Inner.{start_refusal}
+use Rattle.mir.proofs.Passing.{room_passes, refusal_without}
 use Rattle.rudzaviks.proofs.Written.{written, left_by}
 use Rattle.rudzaviks.specs.Exports.{RudzaviksOptimize, verdict_with, report_word, records_word}
 
@@ -43,12 +45,12 @@ module _ {s : Settings} {list table : List ℕ} {held : Lent} {counts : List ℕ
       }
 
   -- no room for the counts
-  pub entry_short : (w : Verdict) → length counts < 7 → w ≡ refusal false s list table
+  pub entry_short : (w : Verdict) → length counts < 7 → w ≡ start_refusal false s (length list) (length table)
       → RudzaviksOptimize s list table held counts held counts (report_word records_word (unless w []))
   unfolding verdict_with
-  entry_short Passed h e = clash (cc (room_passes false s list table (sym e)))
+  entry_short Passed h e = clash (cc (room_passes false s list table (refusal_without s list table ∙ sym e)))
   entry_short (Refused number index) h e =
-      let f : verdict_with s list table held counts ≡ Refused number index = rw (lt-leb 7 (length counts) h, and-false (room_in_words list table held)) (sym e) in
+      let f : verdict_with s list table held counts ≡ Refused number index = rw (lt-leb 7 (length counts) h, and-false (room_in_words list table held)) (refusal_without s list table ∙ sym e) in
       record {
         word = rw f;
         out = rw f;

@@ -10,7 +10,8 @@ use lib.ListN.{length, take, drop}
 use borrow.Author.Tests.{leb-true}
 use Rattle.walks.specs.declared.Counts.{Counts}
 use Rattle.passes.specs.Contract.{counts_of}
-use Rattle.allocator.specs.Optimize.{report, left}
+use Rattle.mir.specs.Answers.{left}
+use Rattle.walks.specs.Lent.{report}
 use Rattle.walks.specs.Lent.{values_in}
 use Rattle.mir.proofs.Over.{over_take}
 use Rattle.mir.specs.Answers.{Verdict}

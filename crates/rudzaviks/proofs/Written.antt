@@ -3,7 +3,7 @@
 use Prim.Native.Nat.{ℕ}
 use mathlib.Core.List.{List}
 use mathlib.Core.Path.{◌≡◌, refl}
-use Rattle.allocator.specs.Optimize.{left}
+use Rattle.mir.specs.Answers.{left}
 use Rattle.mir.specs.Answers.{Verdict}
 use Rattle.mir.specs.Answers.{Passed, Refused}
 use Rattle.mir.specs.Answers.{over, Report, answered, refused, unless}

@@ -2,7 +2,8 @@
 -- refused the list, 0 for none, so a refusal is never taken for an answer; a refusal's index stands in bits 0 to 31.
 use Rattle.std.specs.Prelude.{ℕ, ◌+◌, ◌*◌, ◌/◌, ◌%◌, ◌^◌, Bool, ◌&&◌, List, [], ◌∷◌, ◌≡◌, leb, get_or, length, take}
 use Rattle.walks.specs.Lent.{Lent}
-use Rattle.allocator.specs.Optimize.{room_in_words, left}
+use Rattle.mir.specs.Answers.{left}
+use Rattle.allocator.specs.Optimize.{room_in_words}
 use Rattle.mir.specs.declared.config.Settings.{Settings}
 use Rattle.mir.specs.Answers.{Verdict}
 use Rattle.mir.specs.Answers.{Passed}

@@ -15,7 +15,7 @@ use file::settings_of;
 use mir::config::Settings;
 use mir::questions::check_sizes;
 use mir::refusal::{Question, Refusal};
-use questions::check;
+use questions::check_start;
 use survey::survey;
 use walks::Counts;
 
@@ -116,7 +116,7 @@ pub fn rudzaviks_optimize(
 {
     let settings = settings_of(count_regs, args, complex, arm, compress);
     if counts.len() < 7 {
-        return verdict_word(check(list, table, settings, false));
+        return verdict_word(check_start(settings, list.len(), table.len(), false));
     }
     match optimize_words(list, table, settings, out, colours, ends, set) {
         Ok(c) => {

@@ -1,17 +1,40 @@
--- The index's definitions at their limits, `set_cases`: heads, keys, links, and walks that come to a member or to no link.
+-- The index's definitions at their limits, `set_cases`: heads, keys, links, walks to a member or to no link, and what they pass.
 -- By computation.
-use Prim.Native.Nat.{ℕ}
+use Prim.Native.Nat.{ℕ, zero, suc, ◌+◌, ◌*◌}
 use mathlib.Core.List.{List, [], ◌∷◌}
 use mathlib.Core.Path.{◌≡◌, refl}
 use native.Mathlib.Omega.{arith}
 use lib.ListN.{get_or}
+use Rattle.passes.specs.declared.symbol.Loc.{Loc}
 use Rattle.passes.specs.Color.{loc}
-use Rattle.sets.specs.Sets.{bucket, key, link, Path, here, there}
+use Rattle.sets.specs.Sets.{bucket, key, link, Path, here, there, passed}
 use Rattle.sets.proofs.Paths.{path_none, path_next}
 
 -- one head, and members with keys 0, 2, 1 and 4, joined in this order: 2 and 1 are the first one's, and 4 is at 2's
 abbrev at : ℕ → ℕ
 at k = get_or (1 ∷ 2 ∷ 3 ∷ 4 ∷ []) k 0
+
+abbrev four : List ℕ
+four = 0 ∷ 0 ∷ 0 ∷ 2 ∷ 0 ∷ 1 ∷ 0 ∷ 4 ∷ []
+
+-- two links to each member but the first: what `once` rules out
+abbrev two_links : ℕ → ℕ
+two_links k = get_or (1 ∷ 2 ∷ 2 ∷ 3 ∷ 3 ∷ 4 ∷ 4 ∷ []) k 0
+
+-- a list as bad as can be for the location with space 2 and index 4294967295: each member but that agrees with it in one bit more
+abbrev deep_words : ℕ → ℕ → List ℕ
+deep_words zero x = 1 ∷ 4294967295 ∷ 0 ∷ 4294967295 ∷ 2 ∷ 4294967295 ∷ []
+deep_words (suc n) x = 0 ∷ x ∷ deep_words n (x * 2 + 1)
+
+abbrev deep_links : ℕ → ℕ → List ℕ
+deep_links zero v = v ∷ 0 ∷ 0 ∷ (v + 1) ∷ []
+deep_links (suc n) v = 0 ∷ v ∷ deep_links n (v + 1)
+
+abbrev deep_at : ℕ → ℕ
+deep_at k = get_or (1 ∷ deep_links 32 2) k 0
+
+abbrev deep : ℕ → Loc → ℕ
+deep f l = passed (deep_words 32 0) 1 deep_at l f 1 (key l)
 
 pub record SetCases : Type 0 where
   -- the first head, the last one, and a space's share
@@ -33,6 +56,19 @@ pub record SetCases : Type 0 where
   pub to_one : Path at 1 2 0 1
   -- with bit 1 set the walk comes to no link behind 2
   pub six : Path at 1 3 0 6 → ⊥
+  -- members passed: the one at the head alone, two others, and itself; in one step; none from no link
+  pub pass_zero : passed four 1 at (loc 0 0) 9 1 0 ≡ 1
+  pub pass_four : passed four 1 at (loc 0 4) 9 1 4 ≡ 3
+  pub pass_six : passed four 1 at (loc 0 6) 9 1 6 ≡ 2
+  pub pass_once : passed four 1 at (loc 0 4) 1 1 4 ≡ 1
+  pub pass_none : passed four 1 at (loc 0 4) 9 0 4 ≡ 0
+  -- with two links to a member the bound would not hold: four members, where keys have two bits
+  pub pass_two : passed (0 ∷ 3 ∷ 0 ∷ 2 ∷ 0 ∷ 1 ∷ 0 ∷ 0 ∷ []) 1 two_links (loc 0 0) 9 1 0 ≡ 4
+  -- 35 are passed, and no more in more steps; the member of space 1 is the 33rd; with an even index 1 is passed
+  pub pass_all : deep 35 (loc 2 4294967295) ≡ 35
+  pub pass_no_more : deep 99 (loc 2 4294967295) ≡ 35
+  pub pass_before : deep 99 (loc 1 4294967295) ≡ 33
+  pub pass_even : deep 99 (loc 2 4294967294) ≡ 1
 
 no_six : Path at 1 3 0 6 → ⊥
 no_six p =
@@ -41,6 +77,7 @@ no_six p =
     path_none third refl
 
 pub set_cases : SetCases
+unfolding passed
 set_cases =
     record {
       first = refl;
@@ -57,4 +94,14 @@ set_cases =
       to_four = there 0 refl (there 1 refl (here refl));
       to_one = there 0 refl (here refl);
       six = no_six;
+      pass_zero = refl;
+      pass_four = refl;
+      pass_six = refl;
+      pass_once = refl;
+      pass_none = refl;
+      pass_two = refl;
+      pass_all = refl;
+      pass_no_more = refl;
+      pass_before = refl;
+      pass_even = refl;
     }

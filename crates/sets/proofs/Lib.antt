@@ -2,3 +2,4 @@
 pub mod Pairs
 pub mod Paths
 pub mod Cases
+pub mod Bound

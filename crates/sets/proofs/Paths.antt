@@ -3,7 +3,7 @@
 -- By induction on paths: each place that a path passes has a link, so a link put where there was none changes no path.
 use Prim.Native.Nat.{ℕ, zero, suc, ◌+◌, ◌*◌, ◌-◌, ◌/◌, ◌%◌, ◌<◌, ◌≤◌}
 use mathlib.Core.Bool.{Bool, true, false}
-use mathlib.Core.List.{List, [], ◌∷◌}
+use mathlib.Core.List.{List}
 use mathlib.Core.Logic.{◌⊎◌, inl, inr, ◌≢◌, ∥∥₁_map, ∥∥₁_elim}
 use mathlib.Core.Path.{◌≡◌, refl, sym, ap, subst, ◌∙◌}
 use native.Mathlib.Numerals.{add-one}
@@ -107,6 +107,25 @@ module _ (words words' : List ℕ) {n heads : ℕ} {at : ℕ → ℕ} (at' : ℕ
       go (inl s) = let z : at' i ≡ n + 1 = ap at' s ∙ put in (omega (arith, ends.inside), omega arith)
       go (inr s) = let u = h.up i w (sym (same i s) ∙ e) in (u.0, omega (arith, u.1))
 
+  one_link : (i m w : ℕ) → at' i ≡ w + 1 → at' m ≡ w + 1 → i ≡ m
+  one_link i m w a b = go (same_or i k) (same_or m k)
+    where
+      old_link : (x : ℕ) → x ≢ k → at' x ≡ w + 1 → at x ≡ w + 1
+      old_link x s e = sym (same x s) ∙ e
+
+      -- the link to the new member, and one to a member before it
+      never : (x y : ℕ) → x ≡ k → y ≢ k → at' x ≡ w + 1 → at' y ≡ w + 1 → ⊥
+      never x y s t e d =
+          let z : at' x ≡ n + 1 = ap at' s ∙ put in
+          let u = h.up y w (old_link y t d) in
+          omega arith
+
+      go : (i ≡ k) ⊎ (i ≢ k) → (m ≡ k) ⊎ (m ≢ k) → i ≡ m
+      go (inl s) (inl t) = s ∙ sym t
+      go (inl s) (inr t) = absurd (never i m s t a b)
+      go (inr s) (inl t) = absurd (never m i t s b a)
+      go (inr s) (inr t) = h.once i m w (old_link i s a) (old_link m t b)
+
   -- the walk for a location comes to member j
   abbrev Comes : ℕ → Loc → Type 0
   Comes j m = ∥ Path at' heads j (bucket m heads) (key m) ∥₁
@@ -123,7 +142,7 @@ module _ (words words' : List ℕ) {n heads : ℕ} {at : ℕ → ℕ} (at' : ℕ
           subst (Comes j) (sym (old j in_old)) (∥∥₁_map (h.paths j in_old) (path_kept kept))
 
   pub indexed_more : Indexed words' (n + 1) heads at'
-  indexed_more = record { up = up; paths = paths }
+  indexed_more = record { up = up; once = one_link; paths = paths }
 
 -- the words of one member more
 module _ (words : List ℕ) (n : ℕ) (l : Loc) (room : n * 2 + 2 ≤ length words) where

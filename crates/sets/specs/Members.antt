@@ -1,9 +1,10 @@
 -- Inner: the read set as the list of its members, in joining order.
-use Rattle.std.specs.Prelude.{◌*◌, ◌≤◌, List, ◌≡◌, length}
+use Rattle.std.specs.Prelude.{ℕ, ◌*◌, ◌<◌, ◌≤◌, List, ◌≡◌, length}
 use Rattle.mir.specs.Answers.{over}
 use Rattle.passes.specs.declared.symbol.Loc.{Loc}
 use Rattle.passes.specs.Color.{pairs_from}
 use Rattle.passes.specs.Contract.{words_of}
+use Rattle.sets.specs.Sets.{bucket, key, link, passed}
 use Rattle.sets.specs.declared.ReadSet.{ReadSet}
 
 abbrev pub members_in : ReadSet → List Loc
@@ -15,3 +16,14 @@ pub record SetHolds (s : ReadSet) (ms : List Loc) (before : ReadSet) : Type 0 wh
   pub members : members_in s ≡ ms
   pub words : s.words.now ≡ over (words_of ms) before.words.now
   pub fits : length ms * 2 ≤ length before.words.now
+
+-- how many members the walk for a location passes in a set, in f steps at most
+abbrev pub passed_in : ReadSet → Loc → ℕ → ℕ
+passed_in s l f =
+    let at = link s.low.now s.high.now in
+    passed s.words.now s.heads at l f (at (bucket l s.heads)) (key l)
+
+-- a location of the three spaces, whose index is a word
+pub record InSpaces (l : Loc) : Type 0 where
+  pub space : l.space ≤ 2
+  pub index : l.index < 4294967296

@@ -1,8 +1,8 @@
 -- Inner: the index of the read set: links, each a member's place plus 1, or 0 for none. A member has two, one for each bit that
 -- may come next in the key of a location; the links before those of the members are heads, and a location starts at one of them.
-use Rattle.std.specs.Prelude.{ℕ, ◌+◌, ◌*◌, ◌/◌, ◌%◌, ◌<◌, ◌≤◌, ◌≢◌, List, ◌≡◌, false, length, get_or}
+use Rattle.std.specs.Prelude.{ℕ, zero, suc, ◌+◌, ◌*◌, ◌/◌, ◌%◌, ◌^◌, ◌<◌, ◌≤◌, ◌≢◌, List, ◌≡◌, false, cond, get_or}
 use Rattle.passes.specs.declared.symbol.Loc.{Loc}
-use Rattle.passes.specs.Color.{pairs_from, is_member, loc}
+use Rattle.passes.specs.Color.{pairs_from, is_member, same_loc, loc}
 
 -- the location whose words are a list's jth pair
 abbrev pub pair_at : List ℕ → ℕ → Loc
@@ -30,9 +30,10 @@ pub data Path (at : ℕ → ℕ) (heads j : ℕ) : ℕ → ℕ → Type 0 where
   here : {k bits : ℕ} → at k ≡ j + 1 → Path at heads j k bits
   there : {k bits : ℕ} (w : ℕ) → at k ≡ w + 1 → Path at heads j (heads + (w * 2 + bits % 2)) (bits / 2) → Path at heads j k bits
 
--- links go up, to members, and the walk for each member comes to it
+-- links go up, to members, only one to each, and the walk for each member comes to it
 pub record Indexed (words : List ℕ) (n heads : ℕ) (at : ℕ → ℕ) : Type 0 where
   pub up : (k w : ℕ) → at k ≡ w + 1 → (k < heads + w * 2) × (w < n)
+  pub once : (i k w : ℕ) → at i ≡ w + 1 → at k ≡ w + 1 → i ≡ k
   pub paths : (j : ℕ) → j < n → ∥ Path at heads j (bucket (pair_at words j) heads) (key (pair_at words j)) ∥₁
 
 -- the walk for a location that is no member ends at a place with no link; with one to the next member it goes on to that
@@ -41,3 +42,16 @@ pub record Ends (words : List ℕ) (n heads : ℕ) (at : ℕ → ℕ) (l : Loc) 
   pub inside : k < heads + n * 2
   pub empty : at k ≡ 0
   pub leads : (at' : ℕ → ℕ) → ((i : ℕ) → i ≢ k → at' i ≡ at i) → at' k ≡ n + 1 → Path at' heads n (bucket l heads) (key l)
+
+-- how many members the walk for a location passes in its next steps, f at most, from a link on, with these bits of the key left;
+-- the location itself is the last one that it passes
+unfoldable pub passed : List ℕ → ℕ → (ℕ → ℕ) → Loc → ℕ → ℕ → ℕ → ℕ
+passed words heads at l zero v bits = 0
+passed words heads at l (suc f) zero bits = 0
+passed words heads at l (suc f) (suc w) bits =
+    suc (cond (same_loc (pair_at words w) l) 0 (passed words heads at l f (at (heads + (w * 2 + bits % 2))) (bits / 2)))
+
+-- the index is a word, and the key has n bits at most
+pub record Bits (n : ℕ) (l : Loc) : Type 0 where
+  pub word : l.index < 4294967296
+  pub below : key l < 2 ^ n

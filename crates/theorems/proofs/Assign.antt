@@ -74,7 +74,8 @@ pub record Gets {Value : Type 0} (n i : ℕ) (regs : List (Option ℕ)) (allocs 
   pub holds : (l : Loc) → h ≡ Some l → v ≡ A.cell l.space l.index
 
 -- the destination of record i, the runs agreeing before it (j is i), or after another destination (j is suc i)
-module _ {Value : Type 0} {n j i : ℕ} {E : List ℕ} {Seen : ℕ → ℕ → Type 0} {regs : List (Option ℕ)} {colours : List ℕ} {allocs : List Alloc} {A B B' : State Value} {d c : ℕ} {h : Option Loc} {v : Value}
+module _ {Value : Type 0} {n j i : ℕ} {E : List ℕ} {Seen : ℕ → ℕ → Type 0} {regs : List (Option ℕ)} {colours : List ℕ}
+    {allocs : List Alloc} {A B B' : State Value} {d c : ℕ} {h : Option Loc} {v : Value}
     (early : j ≤ suc i) (names : Names regs (length colours)) (live : Live n j E regs colours allocs) (sim : SimIn n E Seen j regs colours allocs A B)
     (g : Gets n i regs allocs A B B' d c h v) where
   m : ℕ

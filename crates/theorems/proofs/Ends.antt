@@ -136,7 +136,11 @@ module _ {Value : Type 0} (m : Meaning Value) (list : List ℕ) (start : State V
             stopped : at (suc i) ≡ at i
             stopped = onward_ended m list (at i) (over_ended list (at i) e)
         go false e (inl f) = not_both f e
-        go false e (inr f) = record { state = ap (λ (p : Point Value). p.state) there ∙ (sym (turn_runs m (record_at list i) (at i).state e) ∙ ap (turn m (record_at list i)) g.state); spot = inr (ap (λ (p : Point Value). p.at) there) }
+        go false e (inr f) =
+            record {
+              state = ap (λ (p : Point Value). p.state) there ∙ (sym (turn_runs m (record_at list i) (at i).state e) ∙ ap (turn m (record_at list i)) g.state);
+              spot = inr (ap (λ (p : Point Value). p.at) there);
+            }
           where
             there : at (suc i) ≡ record { at = suc i; state = effect m (record_at list i) (at i).state }
             there = ap (λ (x : ℕ). onward m list (record { at = x; state = (at i).state })) f ∙ goes_next i (at i).state l e

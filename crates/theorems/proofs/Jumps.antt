@@ -147,7 +147,8 @@ module _ (s : Settings) (list table : List ℕ) (passes : ListPasses s list tabl
     unfolding jumps is_branch label_of effect outcome_at outcome_of shape_of
     branch_step e g =
         let f = out_kind branch e in
-        jump (word_at rec 1) (rw e at (passes.landing i inside)) (rw f) (rw e) (rw f) (rw e) (rw (f, same_word s list table passes i inside 1 (inr (rw e (omega arith))))) (rw e) (rw f) g.a_runs g.b_runs
+        let word = same_word s list table passes i inside 1 (inr (rw e (omega arith))) in
+        jump (word_at rec 1) (rw e at (passes.landing i inside)) (rw f) (rw e) (rw f) (rw e) (rw (f, word)) (rw e) (rw f) g.a_runs g.b_runs
         (running_same s list table g)
 
     module _ (g : Running s list table i A B) (w1 w2 w3 w4 w5 w6 w7 : ℕ) (is : rec ≡ row branch_if w1 w2 w3 w4 w5 w6 w7) where

@@ -109,7 +109,9 @@ counts_add mark u (suc i) = go (outcome_at mark u i) (counts_add mark u i)
     go : (f : Outcome) → count_to Kept mark u i + (count_to Nop mark u i + (count_to Load mark u i + (count_to Move mark u i + count_to Save mark u i))) ≡ i
         → count_to Kept mark u i + cond (eqb (outcome_number f) 0) 1 0
         + (count_to Nop mark u i + cond (eqb (outcome_number f) 1) 1 0
-        + (count_to Load mark u i + cond (eqb (outcome_number f) 2) 1 0 + (count_to Move mark u i + cond (eqb (outcome_number f) 3) 1 0 + (count_to Save mark u i + cond (eqb (outcome_number f) 4) 1 0))))
+        + (count_to Load mark u i + cond (eqb (outcome_number f) 2) 1 0
+        + (count_to Move mark u i + cond (eqb (outcome_number f) 3) 1 0
+        + (count_to Save mark u i + cond (eqb (outcome_number f) 4) 1 0))))
         ≡ suc i
     go Kept up = omega arith
     go Nop up = omega arith

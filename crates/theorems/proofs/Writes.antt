@@ -72,7 +72,8 @@ module _ {Value : Type 0} (n i : ℕ) (E : List ℕ) (Seen : ℕ → ℕ → Typ
 
   pub record Wrote (ds : List (ℕ × Option Loc)) (vs : List Value) (m : ℕ) (regs : List (Option ℕ)) (st : Coloring) (A B : State Value) : Type 0 where
     pub live : Live n (suc i) E (produced (words ds) m regs) (after_dests n i E ds st).colours (after_dests n i E ds st).allocs
-    pub sim : SimIn n E Seen (suc i) (produced (words ds) m regs) (after_dests n i E ds st).colours (after_dests n i E ds st).allocs (write_all (words ds) vs A) (write_all (words_for n i E ds st) vs B)
+    pub sim : SimIn n E Seen (suc i) (produced (words ds) m regs) (after_dests n i E ds st).colours (after_dests n i E ds st).allocs
+        (write_all (words ds) vs A) (write_all (words_for n i E ds st) vs B)
     pub same : found_all n i E ds st ≡ true → write_all (words_for n i E ds st) vs B ≡ B
 
   -- one destination, and those after it

@@ -1,6 +1,6 @@
 // What `optimize` answers and leaves, beside the words of the C entry.
 ghost use Rattle.std.specs.Prelude.{◌≡◌, ◌≤◌, ◌↔◌, IsTrue, length, take};
-ghost use Rattle.allocator.specs.Optimize.{report};
+ghost use Rattle.walks.specs.Lent.{report};
 ghost use Rattle.allocator.specs.Statics.{entries};
 ghost use Rattle.rudzaviks.specs.Exports.{report_word, records_word};
 

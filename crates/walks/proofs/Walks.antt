@@ -1,6 +1,7 @@
 -- The walks one after the other: what each leaves is what the next asks for, and the whole is the definitions'.
 -- By the laws of a slice that starts with words; a later walk writes over what an earlier one left.
 use Prim.Native.Nat.{ℕ, ◌*◌, ◌≤◌}
+use mathlib.Core.Bool.{true}
 use mathlib.Core.List.{List, [], ◌∷◌, ◌++◌, append_assoc}
 use mathlib.Core.Path.{◌≡◌, refl, sym, ap, ◌∙◌}
 use native.Mathlib.Omega.{arith}
@@ -9,7 +10,7 @@ use Rattle.std.proofs.lemmas.List.{drop-append-le, take-append-drop}
 use Rattle.mir.specs.declared.config.Settings.{Settings}
 use Rattle.mir.specs.Records.{records}
 use Rattle.mir.specs.Shapes.{any}
-use Rattle.mir.proofs.Passing.{ListPasses}
+use Rattle.mir.proofs.Passing.{ListPasses, refusal_after}
 use Rattle.mir.proofs.Renaming.{statics_two}
 use Rattle.passes.specs.Color.{setup}
 use Rattle.passes.specs.declared.symbol.Loc.{Loc}
@@ -19,7 +20,8 @@ use Rattle.theorems.proofs.Members.{few_members}
 use Rattle.theorems.proofs.NeverEmpty.{ready_to}
 use Rattle.walks.specs.declared.contract.Tally.{Tally}
 use Rattle.passes.specs.Contract.{colours_of, members_of, counts_of}
-use Rattle.mir.specs.Answers.{over}
+use Rattle.mir.specs.Answers.{Passed, over}
+use Rattle.mir.specs.Inner.{start_refusal, list_refusal}
 use Rattle.coloring.specs.Coloring.{marked_ends, founds_to}
 use Rattle.walks.specs.Walks.{Colored, Contracted}
 use Rattle.coloring.proofs.Dests.{marked_length}
@@ -42,6 +44,12 @@ over_begin ws old n e same =
     ∙ (append_assoc ws (drop (length ws) (take n old)) (drop n old)
     ∙ ap (λ r. ws ++ r) (sym (drop-append-le (length ws) (take n old) (drop n old) fits) ∙ ap (drop (length ws)) (take-append-drop n old)))
 
+-- a list that passes questions 1 to 4, and then the others
+pub passing_after : (s : Settings) (list table : List ℕ) → start_refusal true s (length list) (length table) ≡ Passed → list_refusal s.count_regs list table ≡ Passed
+    → Passing s list table
+unfolding Passing
+passing_after s list table h q = refusal_after true s list table h ∙ q
+
 module _ (s : Settings) (list table : List ℕ) (h : Passing s list table) where
   passes : ListPasses s list table
   passes = passing_list s list table h
@@ -57,7 +65,7 @@ module _ (s : Settings) (list table : List ℕ) (h : Passing s list table) where
   unfolding members_of
   few_in_set = omega (arith, few_members s list table passes (records list) (omega arith), passes.sized.small, passes.sized.few)
 
-  -- what the third walk leaves
+  -- what the second walk leaves
   pub colored : (C0 E0 : List ℕ) {C E : List ℕ} {members : List Loc} → records list * 2 ≤ length C → records list * 2 ≤ length E
       → C ≡ over (colours_of s list table) C0 → E ≡ over (marked_ends s list table) E0 → members ≡ members_of s list table → Colored s list table C E members
   colored C0 E0 c e p q m =

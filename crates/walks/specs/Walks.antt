@@ -16,6 +16,7 @@ use Rattle.walks.specs.declared.Counts.{Counts}
 use Rattle.walks.specs.Lent.{Lent, values_in}
 use Rattle.passes.specs.Contract.{is_kept, outcome_of, colours_of, members_of, count_of, reduced, counts_of, words_of}
 use Rattle.mir.specs.Answers.{over}
+use Rattle.mir.specs.Inner.{with_part}
 use Rattle.coloring.specs.Coloring.{source_words, was_found, marked_ends}
 
 -- question 4 answered yes, of the numbers of words: each lent slice is long enough
@@ -54,7 +55,7 @@ Short t n = (t.records < n) × (t.nops < n) × (t.loads < n) × (t.moves < n) ×
 
 -- the output, with a record put at a place if it is kept
 abbrev pub put_if : Bool → ℕ → List ℕ → List ℕ → List ℕ
-put_if kept at rec out = cond kept (take at out ++ over rec (drop at out)) out
+put_if kept at rec out = cond kept (with_part at (length rec) rec out) out
 
 -- what becomes of a record
 abbrev pub outcome_in : ℕ → List Loc → List (Option ℕ) → ℕ → List ℕ → List ℕ → List ℕ → Outcome
@@ -69,8 +70,9 @@ pub record MayTurn (rec : List ℕ) (r : Renaming) (colours ends : ℕ) (t : Tal
   pub short : Short t any
   pub out_room : t.records * 8 + 8 ≤ out
 
+-- the ends of a record's statics, without marks
 abbrev pub unmarked : ℕ → ℕ → List ℕ → List ℕ
-unmarked first made ends = take first ends ++ (map (λ end. end % 65536) (take made (drop first ends)) ++ drop made (drop first ends))
+unmarked first made ends = with_part first made (map (λ end. end % 65536) (take made (drop first ends))) ends
 
 pub record Turned (fixed : ℕ) (members : List Loc) (colours rec : List ℕ) (r r' : Renaming) (ends ends' : List ℕ) (t t' : Tally) (out out' : List ℕ) : Type 0 where
   pub regs_are : r'.regs ≡ renamed rec r.statics r.regs
@@ -79,7 +81,7 @@ pub record Turned (fixed : ℕ) (members : List Loc) (colours rec : List ℕ) (r
   pub tally_is : t' ≡ tallied (outcome_in fixed members r.regs r.statics colours ends rec) t
   pub out_is : out' ≡ put_if (is_kept (outcome_in fixed members r.regs r.statics colours ends rec)) (t.records * 8) (rewritten r.regs r.statics colours rec) out
 
--- what the third walk leaves: the words that the slices of colours and of marked ends start with, and the read set
+-- what the second walk leaves: the words that the slices of colours and of marked ends start with, and the read set
 pub record Colored (s : Settings) (list table colours ends : List ℕ) (members : List Loc) : Type 0 where
   pub passing : Passing s list table
   pub colours_room : records list * 2 ≤ length colours

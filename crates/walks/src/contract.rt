@@ -14,6 +14,7 @@ ghost use Rattle.passes.specs.declared.alloc.Outcome.TheVariants as outcomes;
 
 use coloring::{FOUND, deallocate, loc_of, was_found};
 use colours::allocs::partner;
+use lives::by_kind;
 use mir::config::Settings;
 use mir::record::{Record, records_of};
 use mir::rename::{Renaming, count_static};
@@ -245,8 +246,7 @@ fn contract_turn(
     unmark(&mut ends[first..renaming.statics]);
 }
 
-// The turn of the record's kind: in each arm the kind is a number that is written down, and so are the places of its words, which
-// makes a body without jumps of each.
+// The turn of the record's kind.
 fn contract_by_kind(
     rec: &Record,
     renaming: &mut Renaming,
@@ -260,30 +260,10 @@ fn contract_by_kind(
     requires { MayTurn rec.now renaming.old (length colours.now) (length ends.old) tally.old (length out.old) }
     ensures { Turned fixed (members_in set.now) colours.now rec.now renaming.old renaming.new ends.old ends.new tally.old tally.new out.old out.new }
 {
-    match rec[0] {
-        0 => contract_turn(0, rec, renaming, fixed, colours, ends, set, tally, out),
-        1 => contract_turn(1, rec, renaming, fixed, colours, ends, set, tally, out),
-        2 => contract_turn(2, rec, renaming, fixed, colours, ends, set, tally, out),
-        3 => contract_turn(3, rec, renaming, fixed, colours, ends, set, tally, out),
-        4 => contract_turn(4, rec, renaming, fixed, colours, ends, set, tally, out),
-        5 => contract_turn(5, rec, renaming, fixed, colours, ends, set, tally, out),
-        6 => contract_turn(6, rec, renaming, fixed, colours, ends, set, tally, out),
-        7 => contract_turn(7, rec, renaming, fixed, colours, ends, set, tally, out),
-        8 => contract_turn(8, rec, renaming, fixed, colours, ends, set, tally, out),
-        9 => contract_turn(9, rec, renaming, fixed, colours, ends, set, tally, out),
-        10 => contract_turn(10, rec, renaming, fixed, colours, ends, set, tally, out),
-        11 => contract_turn(11, rec, renaming, fixed, colours, ends, set, tally, out),
-        12 => contract_turn(12, rec, renaming, fixed, colours, ends, set, tally, out),
-        13 => contract_turn(13, rec, renaming, fixed, colours, ends, set, tally, out),
-        14 => contract_turn(14, rec, renaming, fixed, colours, ends, set, tally, out),
-        15 => contract_turn(15, rec, renaming, fixed, colours, ends, set, tally, out),
-        16 => contract_turn(16, rec, renaming, fixed, colours, ends, set, tally, out),
-        17 => contract_turn(17, rec, renaming, fixed, colours, ends, set, tally, out),
-        18 => contract_turn(18, rec, renaming, fixed, colours, ends, set, tally, out),
-        19 => contract_turn(19, rec, renaming, fixed, colours, ends, set, tally, out),
-        20 => contract_turn(20, rec, renaming, fixed, colours, ends, set, tally, out),
-        kind => contract_turn(kind, rec, renaming, fixed, colours, ends, set, tally, out),
-    }
+    by_kind!(
+        rec,
+        contract_turn(rec, renaming, fixed, colours, ends, set, tally, out)
+    )
 }
 
 // The reduced list, from the colours, the marked ends and the read set; the ends lose their marks.

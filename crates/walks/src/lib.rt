@@ -1,10 +1,15 @@
-// The walks over a list that passes, one after the other: `create` of crate lives, `color` of crate coloring, and `contract`.
+// The walks, one after the other: `create` of crate lives, which asks a list its questions, and of one that passes `color` of crate
+// coloring, and `contract`.
 #![tactic(auto)]
 
-ghost use Rattle.std.specs.Prelude.{◌+◌, ◌<◌, ◌≤◌, [], ◌≡◌, length};
+ghost use Rattle.std.specs.Prelude.{◌+◌, ◌<◌, ◌≤◌, [], ◌≡◌, true, length};
+ghost use Rattle.mir.specs.Answers.{over};
+ghost use Rattle.mir.specs.Answers as verdict;
+ghost use Rattle.mir.specs.Inner.{start_refusal, list_refusal};
+ghost use Rattle.passes.specs.Create.{ends_of};
 ghost use Rattle.sets.specs.Members.{members_in};
 ghost use Rattle.passes.specs.Machine.{Passing};
-ghost use Rattle.walks.specs.Lent.{lent};
+ghost use Rattle.walks.specs.Lent.{lent, Leaves};
 ghost use Rattle.walks.specs.Walks.{Roomy, Reduces};
 
 pub mod contract;
@@ -13,6 +18,7 @@ use crate::contract::Tally;
 use coloring::color;
 use lives::create;
 use mir::config::Settings;
+use mir::refusal::Refusal;
 use sets::ReadSet;
 
 // What the reduced list and the lent slices have, and what was dropped.
@@ -23,7 +29,7 @@ pub struct Counts {
     pub tally: Tally,
 }
 
-// The three walks over a list that passes, with a set of no members; each renames the registers as it goes.
+// The two walks over a list that passes, with its ends and a set of no members; each renames the registers as it goes.
 fn walk(
     list: &[u32],
     table: &[u32],
@@ -34,12 +40,12 @@ fn walk(
     read: &mut ReadSet<'_>,
 ) -> Counts
     requires passing { Passing settings list.now table.now }
+    requires created { ends.old ≡ over (ends_of list.now) ends.old }
     requires roomy { Roomy (length list.now) (length table.now) (length out.old) (length colours.old) (length ends.old) (length read.old.words.now) }
     requires empty { members_in read.old ≡ [] }
     ensures same_reference { read.new.words.ghost_name ≡ read.old.words.ghost_name }
     ensures reduces { Reduces settings list.now table.now (lent out.old colours.old ends.old read.old.words.now) (lent out.new colours.new ends.new read.new.words.now) result }
 {
-    create(list, ends);
     let statics = color(list, table, settings, colours, ends, read);
     let tally = contract::contract(list, settings, colours, ends, read, out);
     Counts {
@@ -62,6 +68,7 @@ fn reduce_in<const HEADS: usize, const LINKS: usize>(
     set: &mut [u32],
 ) -> Counts
     requires passing { Passing settings list.now table.now }
+    requires created { ends.old ≡ over (ends_of list.now) ends.old }
     requires roomy { Roomy (length list.now) (length table.now) (length out.old) (length colours.old) (length ends.old) (length set.old) }
     requires heads { 0 < HEADS }
     requires links { HEADS + length set.old ≤ LINKS }
@@ -85,6 +92,7 @@ fn reduce_sized(
     set: &mut [u32],
 ) -> Counts
     requires passing { Passing settings list.now table.now }
+    requires created { ends.old ≡ over (ends_of list.now) ends.old }
     requires roomy { Roomy (length list.now) (length table.now) (length out.old) (length colours.old) (length ends.old) (length set.old) }
     requires few { length set.old ≤ 327680 }
     ensures { Reduces settings list.now table.now (lent out.old colours.old ends.old set.old) (lent out.new colours.new ends.new set.new) result }
@@ -99,7 +107,8 @@ fn reduce_sized(
     }
 }
 
-// The walks, with the read set in the part of its slice that the list's members may need.
+// A list that passes questions 1 to 4 is asked the others and reduced, with the read set in the part of its slice that the list's members
+// may need.
 pub fn reduce(
     list: &[u32],
     table: &[u32],
@@ -108,11 +117,12 @@ pub fn reduce(
     colours: &mut [u32],
     ends: &mut [u32],
     set: &mut [u32],
-) -> Counts
-    requires passing { Passing settings list.now table.now }
+) -> Result<Counts, Refusal>
+    requires started { start_refusal true settings (length list.now) (length table.now) ≡ verdict.Passed }
     requires roomy { Roomy (length list.now) (length table.now) (length out.old) (length colours.old) (length ends.old) (length set.old) }
-    ensures { Reduces settings list.now table.now (lent out.old colours.old ends.old set.old) (lent out.new colours.new ends.new set.new) result }
+    ensures { Leaves (list_refusal settings.count_regs list.now table.now) settings list.now table.now (lent out.old colours.old ends.old set.old) (lent out.new colours.new ends.new set.new) result }
 {
+    create(list, table, settings.count_regs, ends)?;
     let words = list.len() / 8 * 4 + table.len();
-    reduce_sized(list, table, settings, out, colours, ends, &mut set[..words])
+    Ok(reduce_sized(list, table, settings, out, colours, ends, &mut set[..words]))
 }

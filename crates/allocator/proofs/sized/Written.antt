@@ -6,23 +6,26 @@ use mathlib.Core.Bool.{true}
 use mathlib.Core.Path.{◌≡◌, refl, sym, ap, ◌∙◌}
 use native.Mathlib.Omega.{arith}
 use lib.ListN.{length, get_or, take, drop}
+use Rattle.std.specs.Prelude.{Ok, Err}
 use Rattle.mir.specs.declared.config.Settings.{Settings}
+use Rattle.mir.specs.declared.refusal.Refusal.{Refusal}
+use Rattle.mir.specs.Answers.{Verdict, Passed}
 use Rattle.mir.specs.Records.{records}
 use Rattle.mir.proofs.Over.{over_take}
 use Rattle.mir.proofs.Renaming.{statics_two}
-use Rattle.passes.specs.Contract.{colours_of, counts_of}
+use Rattle.passes.specs.Contract.{reduced, colours_of, members_of, words_of, counts_of}
 use Rattle.passes.specs.Create.{ends_of}
 use Rattle.passes.specs.Machine.{Passing}
 use Rattle.theorems.proofs.Create.{ends_count}
 use Rattle.theorems.proofs.NeverEmpty.{ready_to}
 use Rattle.mir.proofs.Passing.{ListPasses, list_passes}
 use Rattle.walks.specs.declared.Counts.{Counts}
-use Rattle.walks.specs.Lent.{Lent}
+use Rattle.walks.specs.Lent.{Lent, Leaves}
 use Rattle.walks.specs.Walks.{Reduces}
+use Rattle.walks.proofs.Leaves.{answer_passed, left_passed, left_refused, refused_of}
 use Rattle.allocator.specs.declared.statics.Static.{Static}
 use Rattle.allocator.specs.Statics.{entries, statics_of}
-use Rattle.allocator.specs.Optimize.{lent_statics}
-use Rattle.allocator.specs.Sized.{Written}
+use Rattle.allocator.specs.Optimize.{LeavesStatics, lent_statics}
 
 entries_length : (cs es : List ℕ) → length es ≡ length cs → length (entries cs es) ≡ length cs
 unfolding entries
@@ -30,13 +33,21 @@ entries_length [] es h = refl
 entries_length (c ∷ cs) [] h = absurd (omega arith)
 entries_length (c ∷ cs) (e ∷ es) h = ap suc (entries_length cs es (omega arith))
 
+-- a refusal has changed no word, and so no entry
+pub kept : (s : Settings) (list table : List ℕ) (statics : List Static) (r : Refusal) {v : Verdict} {held now : Lent} → Leaves v s list table held now (Err r)
+    → LeavesStatics v s list table (lent_statics held.out statics held.set) (lent_statics now.out statics now.set) (Err r)
+kept s list table statics r w =
+    record {
+      answer = w.answer;
+      out = w.out;
+      statics = left_refused (statics_of s list table) statics (refused_of r (counts_of s list table) w.answer);
+      set = w.set;
+    }
+
 module _ (s : Settings) (list table : List ℕ) (h : Passing s list table) where
   passes : ListPasses s list table
   unfolding Passing
   passes = list_passes true s list table h
-
-  pub small : length list ≤ 524288
-  small = passes.sized.small
 
   pub ends_same : length (ends_of list) ≡ length (colours_of s list table)
   unfolding colours_of
@@ -62,14 +73,14 @@ module _ (s : Settings) (list table : List ℕ) (h : Passing s list table) where
     ends_taken : take r.statics now.ends ≡ ends_of list
     ends_taken = rw (count_is, sym ends_same, w.ends) (over_take (ends_of list) held.ends)
 
-    pub written : {statics left : List Static}
-        → left ≡ entries (take r.statics now.colours) (take r.statics now.ends) ++ drop r.statics statics
-        → Written s list table (lent_statics held.out statics held.set) (lent_statics now.out left now.set) r
+    pub written : {v : Verdict} {statics entered : List Static} → v ≡ Passed
+        → entered ≡ entries (take r.statics now.colours) (take r.statics now.ends) ++ drop r.statics statics
+        → LeavesStatics v s list table (lent_statics held.out statics held.set) (lent_statics now.out entered now.set) (Ok r)
     unfolding statics_of
-    written {statics} e =
+    written {statics = statics} p e =
         record {
-          counts = w.counts;
-          out = w.out;
-          statics = rw (colours_taken, ends_taken, count_is, sym statics_length) at e;
-          set = w.set;
+          answer = answer_passed (counts_of s list table) p w.counts;
+          out = left_passed (reduced s list table) held.out p w.out;
+          statics = left_passed (statics_of s list table) statics p (rw (colours_taken, ends_taken, count_is, sym statics_length) at e);
+          set = left_passed (words_of (members_of s list table)) held.set p w.set;
         }

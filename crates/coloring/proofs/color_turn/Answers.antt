@@ -1,20 +1,12 @@
 -- `coloring::color_turn` meets its contract: the calls in their order take what is lent to the next record.
 -- By what `Colouring` says of a record.
-use Rattle.mir.proofs.Renaming.{walked_first, walked_next}
-use Prim.Native.Nat.{◌+◌, ◌/◌, ◌-◌}
-use mathlib.Core.Path.{◌≡◌, refl, sym, ◌∙◌}
+use Rattle.mir.proofs.Renaming.{walked_next}
+use Prim.Native.Nat.{◌+◌, ◌-◌}
+use mathlib.Core.Path.{◌≡◌, refl}
 use native.Mathlib.Omega.{arith}
-use lib.ListN.{length}
-use Rattle.passes.specs.Color.{color_to}
-use Rattle.passes.specs.Contract.{colours_of, members_of}
-use Rattle.coloring.specs.Coloring.{founds_to, marked}
 use Rattle.coloring.proofs.Dests.{lent_masked}
 use Rattle.coloring.proofs.Invariant.{words_few, statics_few, colours_two, ends_two, record_fields, record_partner, record_space}
 use Rattle.coloring.proofs.Invariant.{coloured, coloured_most, expire_gives, color_ready, color_gives, found_gives, read_room, read_gives}
-use Rattle.sets.proofs.Pairs.{holds_own}
-use Rattle.theorems.proofs.NeverEmpty.{ready_to}
-use Rattle.lives.proofs.Registers.{passing_list}
-use borrow.Author.Rules.{rules}
 use Rattle.coloring.proofs.color_turn.Goals as goal
 
 pub expire_sources-requires : goal.expire_sources-requires

@@ -11,7 +11,8 @@ use Rattle.mir.specs.declared.refusal.Question.TheVariants.{Lengths}
 use Rattle.mir.specs.declared.refusal.Refusal.{Refusal}
 use Rattle.walks.specs.declared.Counts.{Counts}
 use Rattle.passes.specs.Contract.{counts_of}
-use Rattle.allocator.specs.Optimize.{report, left}
+use Rattle.mir.specs.Answers.{left}
+use Rattle.walks.specs.Lent.{report}
 use Rattle.mir.proofs.Over.{over_take}
 use Rattle.mir.specs.Answers.{refusal_of, unless}
 use Rattle.file.specs.File.{FileReduced, record_count, layout_of, file_counts, file_reduced, words_verdict}

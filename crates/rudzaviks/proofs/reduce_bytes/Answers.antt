@@ -3,7 +3,7 @@
 use mathlib.Core.Path.{sym, ap, ◌∙◌}
 use native.Mathlib.Omega.{arith}
 use lib.ListN.{replicate}
-use Rattle.allocator.specs.Optimize.{report}
+use Rattle.walks.specs.Lent.{report}
 use Rattle.file.proofs.Sections.{sections}
 use Rattle.rudzaviks.proofs.ReduceBytes.{words_left, written_promise, refused_bytes}
 use Rattle.rudzaviks.proofs.reduce_bytes.Goals as goal

@@ -13,8 +13,8 @@ use Rattle.rudzaviks.proofs.rudzaviks_optimize.Goals as goal
 
 pub returns-then-counts-lt7 : goal.returns-then-counts-lt7
 returns-then-counts-lt7 c =
-    let verdict = rw c.settings_of-settings.ensures at c.check.ensures in
-    rw c.verdict_word.ensures (entry_short (verdict_in c.check.result) c.if-counts-lt7.true verdict)
+    let verdict = rw c.settings_of-settings.ensures at c.check_start.ensures in
+    rw c.verdict_word.ensures (entry_short (verdict_in c.check_start.result) c.if-counts-lt7.true verdict)
 
 pub returns-in-Ok : goal.returns-in-Ok
 returns-in-Ok c =

@@ -32,9 +32,10 @@ pub returns-in-Err : goal.returns-in-Err
 unfolding shape_refusal
 returns-in-Err c =
     let here = c.records_of-rec-items.ensures.each c.loop-i.i c.loop-i-test.true in
+    let no = told c.args.table.now c.args.list.now c.args.settings.count_regs c.loop-i.i here.1 c.check_shape.ensures in
     rw (
       c.of_record.ensures,
-      ← (unrefused_stops c.loop-i.invariant.0 here.0 (sym (ap no_in c.in-Err.is) ∙ told c.args.table.now c.args.list.now c.args.settings.count_regs c.loop-i.i here.1 c.check_shape.ensures) (numbered c.in-Err.question)),
+      ← (unrefused_stops c.loop-i.invariant.0 here.0 (sym (ap no_in c.in-Err.is) ∙ no) (numbered c.in-Err.question)),
     )
 
 pub get_dst-mask-requires : goal.get_dst-mask-requires

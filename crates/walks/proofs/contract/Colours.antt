@@ -52,13 +52,23 @@ grows_length {xs = xs} g = rw g.is (omega (arith, length-append xs g.more))
 
 -- ---- colours
 
+-- a slice has these colours, static by static
+abbrev Gives : List ℕ → List ℕ → Type 0
+Gives cs colours = (k : ℕ) → k < length colours → get_or cs k 0 ≡ get_or colours k 0
+
 module _ (n i : ℕ) (E : List ℕ) where
   dest_grows : (w : ℕ) (held : Option Loc) (st : Coloring) → Grows st.colours (after_dest n i E w held st).colours
   unfolding after_dest
   dest_grows w held st = go (is_gen w)
     where
-      go : (b : Bool) → Grows st.colours (cond b (record { allocs = assign st.allocs (chosen (choice_for n i held st)) (get_or E (length st.colours) 0) held; colours = st.colours ++ chosen (choice_for n i held st) ∷ []; members = st.members }) st).colours
-      go true = grows_by st.colours (chosen (choice_for n i held st) ∷ [])
+      c : ℕ
+      c = chosen (choice_for n i held st)
+
+      new : Coloring
+      new = record { allocs = assign st.allocs c (get_or E (length st.colours) 0) held; colours = st.colours ++ c ∷ []; members = st.members }
+
+      go : (b : Bool) → Grows st.colours (cond b new st).colours
+      go true = grows_by st.colours (c ∷ [])
       go false = grows_same st.colours
 
   pub dests_grow : (ds : List (ℕ × Option Loc)) (st : Coloring) → Grows st.colours (after_dests n i E ds st).colours
@@ -67,8 +77,7 @@ module _ (n i : ℕ) (E : List ℕ) where
   dests_grow (d ∷ ds) st = grows_more (dest_grows d.0 d.1 st) (dests_grow ds (after_dest n i E d.0 d.1 st))
 
   -- the destinations' words, read off colours that have grown
-  pub dest_words_lem : (ds : List (ℕ × Option Loc)) (st : Coloring) (cs : List ℕ) (next : ℕ) → next ≡ length st.colours
-      → ((k : ℕ) → k < length (after_dests n i E ds st).colours → get_or cs k 0 ≡ get_or (after_dests n i E ds st).colours k 0)
+  pub dest_words_lem : (ds : List (ℕ × Option Loc)) (st : Coloring) (cs : List ℕ) (next : ℕ) → next ≡ length st.colours → Gives cs (after_dests n i E ds st).colours
       → dest_words (words ds) next cs ≡ words_for n i E ds st
   unfolding dest_words words_for word_for after_dests after_dest words
   dest_words_lem [] st cs next e h = refl
@@ -80,8 +89,8 @@ module _ (n i : ℕ) (E : List ℕ) where
       new : Coloring
       new = record { allocs = assign st.allocs c (get_or E (length st.colours) 0) d.1; colours = st.colours ++ c ∷ []; members = st.members }
 
-      go : ((t : Coloring) (m : ℕ) → m ≡ length t.colours → ((k : ℕ) → k < length (after_dests n i E ds t).colours → get_or cs k 0 ≡ get_or (after_dests n i E ds t).colours k 0) → dest_words (words ds) m cs ≡ words_for n i E ds t)
-          → (b : Bool) → ((k : ℕ) → k < length (after_dests n i E ds (cond b new st)).colours → get_or cs k 0 ≡ get_or (after_dests n i E ds (cond b new st)).colours k 0)
+      go : ((t : Coloring) (m : ℕ) → m ≡ length t.colours → Gives cs (after_dests n i E ds t).colours → dest_words (words ds) m cs ≡ words_for n i E ds t)
+          → (b : Bool) → Gives cs (after_dests n i E ds (cond b new st)).colours
           → cond b (get_or cs next 0) d.0 ∷ dest_words (words ds) (next + cond b 1 0) cs ≡ cond b c d.0 ∷ words_for n i E ds (cond b new st)
       go up false f = ap (λ r. d.0 ∷ r) (rw (add-zero next) (up st next e f))
       go up true f =
@@ -121,28 +130,34 @@ module _ (s : Settings) (list table : List ℕ) (passes : ListPasses s list tabl
   abbrev st : Coloring
   st = color_to u i
 
+  -- the lent slice, with the colours of all statics
+  abbrev all : List ℕ
+  all = over (colours_of s list table) C
+
   -- the colours of the statics up to a record, among all
-  final : (j : ℕ) → j ≤ records list → (k : ℕ) → k < length (color_to u j).colours → get_or (over (colours_of s list table) C) k 0 ≡ get_or (color_to u j).colours k 0
+  final : (j : ℕ) → j ≤ records list → Gives all (color_to u j).colours
   unfolding colours_of
   final j h k m =
       let e : (records list - j) + j ≡ records list = omega arith in
       let g = subst (λ n. Grows (color_to u j).colours (color_to u n).colours) e (colours_grow u (records list - j) j) in
       over_get (color_to u (records list)).colours C k 0 (omega (arith, m, grows_length g)) ∙ grows_get 0 k g m
 
-  colours_length : length (color_to u i).colours ≡ statics_to list i
+  colours_length : length st.colours ≡ statics_to list i
   colours_length = (ready_to s list table passes i (omega arith)).next
 
-  final_dests : dest_words (dests (record_at list i)) (statics_to list i) (over (colours_of s list table) C) ≡ words_for s.count_regs i (ends_of list) (dests_at u i st) st
+  final_dests : dest_words (dests (record_at list i)) (statics_to list i) all ≡ words_for s.count_regs i (ends_of list) (dests_at u i st) st
   final_dests =
-      subst (λ ws. dest_words ws (statics_to list i) (over (colours_of s list table) C) ≡ words_for s.count_regs i (ends_of list) (dests_at u i st) st)
+      subst (λ ws. dest_words ws (statics_to list i) all ≡ words_for s.count_regs i (ends_of list) (dests_at u i st) st)
       (wanted_words (dests (record_at list i)) _ _)
-      (dest_words_lem s.count_regs i (ends_of list) (dests_at u i st) st (over (colours_of s list table) C) (statics_to list i) (sym colours_length)
-      (subst (λ cs. (k : ℕ) → k < length cs → get_or (over (colours_of s list table) C) k 0 ≡ get_or cs k 0) (same_after u i) (final (suc i) l)))
+      (dest_words_lem s.count_regs i (ends_of list) (dests_at u i st) st all (statics_to list i) (sym colours_length)
+      (subst (Gives all) (same_after u i) (final (suc i) l)))
 
-  final_sources : source_words (regs_to list i) (over (colours_of s list table) C) (record_at list i) ≡ sources_at u i st
-  final_sources = same_sources_in (regs_to list i) (over (colours_of s list table) C) st.colours (λ w t e. final i (omega arith) t (rw colours_length ((names_to list i).below w t e))) (sources (record_at list i))
+  final_sources : source_words (regs_to list i) all (record_at list i) ≡ sources_at u i st
+  final_sources =
+      same_sources_in (regs_to list i) all st.colours
+      (λ w t e. final i (omega arith) t (rw colours_length ((names_to list i).below w t e))) (sources (record_at list i))
 
   -- the record that the last walk writes
-  pub rewritten_out : rewritten (regs_to list i) (statics_to list i) (over (colours_of s list table) C) (record_at list i) ≡ out_at u i
+  pub rewritten_out : rewritten (regs_to list i) (statics_to list i) all (record_at list i) ≡ out_at u i
   unfolding rewritten out_at colored
   rewritten_out = rw (final_dests, final_sources) refl

@@ -74,7 +74,17 @@ tally_next s list table i = go (outcome_at (fixed_mark s) (setup s list table) i
     one_more : Outcome → Outcome → ℕ
     one_more f g = cond (eqb (outcome_number f) (outcome_number g)) 1 0
 
-    go : (f : Outcome) → ◌≡◌ {A = Tally} (tallied f t) (record { records = t.records + one_more f Kept; nops = t.nops + one_more f Nop; loads = t.loads + one_more f Load; moves = t.moves + one_more f Move; saves = t.saves + one_more f Save })
+    more : Outcome → Tally
+    more f =
+        record {
+          records = t.records + one_more f Kept;
+          nops = t.nops + one_more f Nop;
+          loads = t.loads + one_more f Load;
+          moves = t.moves + one_more f Move;
+          saves = t.saves + one_more f Save;
+        }
+
+    go : (f : Outcome) → tallied f t ≡ more f
     go Kept = tally_same _ refl (sym (add-zero t.nops)) (sym (add-zero t.loads)) (sym (add-zero t.moves)) (sym (add-zero t.saves))
     go Nop = tally_same _ (sym (add-zero t.records)) refl (sym (add-zero t.loads)) (sym (add-zero t.moves)) (sym (add-zero t.saves))
     go Load = tally_same _ (sym (add-zero t.records)) (sym (add-zero t.nops)) refl (sym (add-zero t.moves)) (sym (add-zero t.saves))
@@ -89,7 +99,7 @@ put_after R W O0 at false e = ap (λ xs. over xs O0) (sym (append-nil R))
 put_after R W O0 at true e =
     rw (e, take-append_seam R (drop (length R) O0), drop-append_seam R (drop (length R) O0)) (over_after R W O0)
 
--- what the walk is called with: what the third walk left, and an output that has room
+-- what the walk is called with: what the second walk left, and an output that has room
 pub record Call : Type 0 where
   pub settings : Settings
   pub list : List ℕ
@@ -219,7 +229,8 @@ module _ (g : Call) where
     unfolding statics_to
     ends_next m =
         rw (add-one i, m, inv.ends_are, w.statics_are, e)
-        (unmark_part (ends_of list) E0 (founds_to u (records list)) (small s list table passes C E0 wide) (gens (dests (record_at list i))) (statics_to list i) (room s list table passes C E0 wide i l))
+        (unmark_part (ends_of list) E0 (founds_to u (records list)) (small s list table passes C E0 wide) (gens (dests (record_at list i))) (statics_to list i)
+        (room s list table passes C E0 wide i l))
 
     out_next : put_if (is_kept (outcome_at (fixed_mark s) u i)) (t.records * 8) (out_at u i) out
         ≡ over (reduced_to (fixed_mark s) u (i + 1)) O0

@@ -1,12 +1,8 @@
 -- `walks::walk` meets its contract: the walks one after the other.
 -- What each walk leaves is what the next asks for.
 use Rattle.std.proofs.Common.{ap, ◌∙◌, arith, length, rules}
-use Rattle.passes.specs.Create.{ends_of}
-use Rattle.walks.proofs.Walks.{starts, colored, counts_are, few_colours, few_in_set, ends_last}
+use Rattle.walks.proofs.Walks.{colored, counts_are, few_colours, few_in_set, ends_last}
 use Rattle.walks.proofs.walk.Goals as goal
-
-pub create-requires : goal.create-requires
-create-requires c = record { passes = (c.args.settings, c.args.table.now, c.requires.passing); ends_room = c.requires.roomy.for_ends }
 
 pub color-statics-requires : goal.color-statics-requires
 color-statics-requires c =
@@ -14,9 +10,9 @@ color-statics-requires c =
       empty = c.requires.empty;
       passing = c.requires.passing;
       colours_room = c.requires.roomy.for_colours;
-      ends_room = omega (arith, c.requires.roomy.for_ends, c.create.auto.ends);
+      ends_room = c.requires.roomy.for_ends;
       table_in_bounds = c.requires.roomy.for_set;
-      ends_value = starts (ends_of c.args.list.now) c.args.ends.now c.create.ensures;
+      ends_value = c.requires.created;
     }
 
 pub contract-tally-requires : goal.contract-tally-requires
@@ -26,8 +22,8 @@ contract-tally-requires c =
     record {
       colored = (
         c.args.table.now,
-        colored c.args.settings c.args.list.now c.args.table.now c.requires.passing c.args.colours.now c.create.new.ends
-            (omega (arith, r.for_colours, c.color-statics.auto.colours)) (omega (arith, r.for_ends, c.color-statics.auto.ends, c.create.auto.ends)) left.colours left.ends left.set.members,
+        colored c.args.settings c.args.list.now c.args.table.now c.requires.passing c.args.colours.now c.args.ends.now
+            (omega (arith, r.for_colours, c.color-statics.auto.colours)) (omega (arith, r.for_ends, c.color-statics.auto.ends)) left.colours left.ends left.set.members,
       );
       out_room = r.for_out;
     }
@@ -45,8 +41,8 @@ returns c =
     let table = c.args.table.now in
     let r = c.requires.roomy in
     let left = c.color-statics.ensures in
-    let q = c.contract-tally.ensures table (colored s list table c.requires.passing c.args.colours.now c.create.new.ends
-    (omega (arith, r.for_colours, c.color-statics.auto.colours)) (omega (arith, r.for_ends, c.color-statics.auto.ends, c.create.auto.ends)) left.colours left.ends left.set.members) in
+    let q = c.contract-tally.ensures table (colored s list table c.requires.passing c.args.colours.now c.args.ends.now
+    (omega (arith, r.for_colours, c.color-statics.auto.colours)) (omega (arith, r.for_ends, c.color-statics.auto.ends)) left.colours left.ends left.set.members) in
     record {
       same_reference = left.set.same;
       reduces =
@@ -54,7 +50,7 @@ returns c =
             counts = counts_are s list table c.requires.passing c.contract-tally.result c.color-statics.result c.len.result q left.statics (c.len.ensures ∙ ap length left.set.members);
             out = q.out_left;
             colours = left.colours;
-            ends = ends_last s list table c.requires.passing c.args.ends.now c.create.new.ends c.create.ensures left.ends q.ends_left;
+            ends = ends_last s list table c.requires.passing c.args.ends.now c.args.ends.now c.requires.created left.ends q.ends_left;
             set = left.set.words;
           };
     }

@@ -1,6 +1,6 @@
 -- `mir::rename::produce_all` meets its contract: x takes its static before y, and each destination counts by itself.
 -- Each arm has the destinations that its pattern tells.
-use mathlib.Core.Path.{◌≡◌, refl}
+use mathlib.Core.Path.{refl}
 use native.Mathlib.Nat.{add-zero}
 use native.Mathlib.Omega.{arith}
 use Rattle.mir.specs.Renaming.{gens, produced}

@@ -33,8 +33,10 @@ loop-from-preserved c =
     let part = take (until - from) (drop from rows) in
     let none = position_none (is_left c.strike.new.table) part [] (sym c.first_left.ensures ∙ c.in_default-first_left.is) in
     let long : length part ≡ until - from = search rules in
-    unrefused_until c.args.list.now from until c.loop-from.invariant (omega (arith, c.collect-until.ensures.more)) c.collect-until.ensures.within
-    (λ i a l. rw (left_is c.strike.new.table c.collect-until.ensures c.strike.ensures i a l, ← (part_at c.args.list.now rows (rows_are c.args.list.now rows items.len items.each) c.collect-until.ensures.within i a l), none (i - from) (omega (arith, long))))
+    let collected = c.collect-until.ensures in
+    let each = rows_are c.args.list.now rows items.len items.each in
+    unrefused_until c.args.list.now from until c.loop-from.invariant (omega (arith, collected.more)) collected.within
+    (λ i a l. rw (left_is c.strike.new.table collected c.strike.ensures i a l, ← (part_at c.args.list.now rows each collected.within i a l), none (i - from) (omega (arith, long))))
 
 pub returns-in-Some-first_left : goal.returns-in-Some-first_left
 unfolding branch_refusal

@@ -52,7 +52,8 @@ returns-then-not-put_branch c =
     let rows = c.records_of-records.result.now in
     let at = c.args.from + c.loop-k.k in
     let shift : at - c.args.from ≡ c.loop-k.k = omega arith in
-    let is = rw shift at (part_at c.args.list.now rows {from = c.args.from} {until = length rows} (rows_are c.args.list.now rows items.len items.each) (omega (arith, items.len)) at (omega arith) (omega arith)) in
+    let each = rows_are c.args.list.now rows items.len items.each in
+    let is = rw shift at (part_at c.args.list.now rows {from = c.args.from} {until = length rows} each (omega (arith, items.len)) at (omega arith) (omega arith)) in
     let put = rw is at c.put_branch.ensures in
     record {
       more = stops h c.requires.empty put (not-true _ (ap not c.if-not-put_branch.true));

@@ -1,6 +1,5 @@
 -- A new member's words go after those of the others, and its link where the walk for it ended. The rest is found.
-use Rattle.std.proofs.Common.{sym, ◌∙◌, ◌+◌, ◌*◌, ◌≤◌, arith, length, length-set}
-use Rattle.sets.specs.Sets.{link}
+use Rattle.std.proofs.Common.{◌+◌, ◌*◌, ◌≤◌, arith, length, length-set}
 use Rattle.sets.proofs.Pairs.{room_for}
 use Rattle.sets.proofs.Paths.{indexed_more, link_same, link_other, pair_old, pair_new}
 use Rattle.sets.proofs.ReadSet.insert.Goals as goal

@@ -17,7 +17,7 @@ use Rattle.lives.proofs.Registers.{turn}
 use borrow.Author.Rules.{rules}
 use Rattle.walks.proofs.contract.contract.Goals as goal
 
--- what the walk was called with, for any settings and table that the third walk's slices are of
+-- what the walk was called with, for any settings and table that the second walk's slices are of
 abbrev call_of : (list colours ends : List ℕ) (members : List Loc) (out : List ℕ) → length list ≤ length out
     → (s : Settings) (table : List ℕ) → Colored s list table colours ends members → Call
 call_of list colours ends members out room_out s table colored =

@@ -15,4 +15,5 @@ abbrev pub invariant-loop-rec : goal.invariant-loop-rec
 invariant-loop-rec l =
     (l.rec-index ≤ records l.list)
     × (Walked l.list l.rec-index l.renaming
-    × ((s : Settings) (table : List ℕ) → l.fixed ≡ fixed_mark s → Colored s l.list table l.colours l.initial.ends (members_in l.set) → Contracting s l.list table l.initial.ends l.initial.out l.rec-index l.ends l.out l.tally))
+    × ((s : Settings) (table : List ℕ) → l.fixed ≡ fixed_mark s → Colored s l.list table l.colours l.initial.ends (members_in l.set)
+    → Contracting s l.list table l.initial.ends l.initial.out l.rec-index l.ends l.out l.tally))
