@@ -8,11 +8,11 @@ use native.Mathlib.Omega.{arith}
 use lib.Dec.{leb}
 use lib.ListN.{length, take}
 use borrow.Author.Tests.{leb-true}
-use Rattle.std.specs.Prelude.{Result, Err}
+use Rattle.std.specs.Prelude.{Result}
 use Rattle.std.proofs.Math.Nat.{min-le_left, min-le_right}
 use Rattle.mir.specs.declared.config.Settings.{Settings}
 use Rattle.mir.specs.declared.refusal.Refusal.{Refusal}
-use Rattle.mir.specs.Answers.{Verdict, Passed, Refused, answered, number_of, unless, over, left}
+use Rattle.mir.specs.Answers.{Verdict, Passed, Refused, answered, unless, over, left}
 use Rattle.mir.specs.Folds.{or_else}
 use Rattle.mir.specs.Inner.{start_refusal, list_refusal}
 use Rattle.mir.specs.Questions.{refusal}
@@ -22,16 +22,14 @@ use Rattle.mir.proofs.Passing.{room_passes, start_passes, refusal_parts, refusal
 use Rattle.mir.proofs.Renaming.{and_both}
 use Rattle.passes.specs.declared.alloc.Outcome.TheVariants.{Kept}
 use Rattle.passes.specs.Color.{setup}
-use Rattle.passes.specs.Contract.{reduced, members_of, words_of, count_of, counts_of}
+use Rattle.passes.specs.Contract.{reduced, count_of, counts_of}
 use Rattle.passes.specs.Machine.{Passing, Preserves}
 use Rattle.theorems.proofs.Lengths.{reduced_length}
 use Rattle.theorems.proofs.Preserved.{list_preserved}
 use Rattle.walks.specs.declared.Counts.{Counts}
 use Rattle.walks.specs.Lent.{Lent, Leaves, report}
 use Rattle.walks.specs.Walks.{Roomy}
-use Rattle.walks.proofs.Leaves.{answer_refused, left_refused}
 use Rattle.allocator.specs.Optimize.{LentStatics, LeavesStatics, Optimized, OptimizedWords, KeepsRuns, room_for, room_in, room_in_words, verdict_of, verdict_of_words, records_in}
-use Rattle.allocator.specs.Statics.{statics_of}
 
 module _ (s : Settings) (list table : List ℕ) where
   pub reduced_words : length (reduced s list table) ≡ count_of Kept s list table * 8
@@ -112,15 +110,6 @@ module _ (s : Settings) (list table : List ℕ) (held : LentStatics) where
       → Optimized s list table held now given
   unfolding verdict_of
   promised {given = given} w = record { leaves = w; preserved = keeps s list table held.out given (passing_with (room_in list table held) s list table) w.answer w.out }
-
-  pub statics_refused : {v : Verdict} {r : Refusal} → v ≡ Refused (number_of r.question) r.index → LeavesStatics v s list table held held (Err r)
-  statics_refused {r = r} p =
-      record {
-        answer = answer_refused r (counts_of s list table) p;
-        out = left_refused (reduced s list table) held.out p;
-        statics = left_refused (statics_of s list table) held.statics p;
-        set = left_refused (words_of (members_of s list table)) held.set p;
-      }
 
 -- ---- `optimize_words`
 
