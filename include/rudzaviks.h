@@ -15,7 +15,7 @@
  * by a test. For a list that passes questions 1 to 4 it goes by how many words its set must have:
  *
  *   rudzaviks_survey                                       1,024
- *   rudzaviks_optimize, the list being refused by 1 to 4     512
+ *   rudzaviks_optimize, the list being refused by 1 to 4     640
  *   rudzaviks_optimize, a set of at most 3,072 words      21,504
  *   rudzaviks_optimize, a set of at most 20,480 words     76,800
  *   rudzaviks_optimize, a longer set                   1,084,416

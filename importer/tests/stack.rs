@@ -17,9 +17,9 @@ use harness::random::Random;
 use harness::settings::Settings;
 use rudzaviks::ffi::{optimize_word, reduce_word, survey_word, Buffers, PARTS};
 
-/// What the documents state, in bytes.
+/// What the documents state, in bytes: numbers that stand for nothing else there.
 const SURVEY: usize = 1_024;
-const REFUSED_AT_ONCE: usize = 512;
+const REFUSED_AT_ONCE: usize = 640;
 const FILE: usize = 78_848;
 
 /// For a list that is refused by a question about its records, by the most of them. The last number
