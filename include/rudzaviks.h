@@ -54,8 +54,14 @@ uint64_t rudzaviks_survey(
  *   colours   2 for each record             starts with the statics' colours, in order
  *   ends      2 for each record             starts with the statics' ends, in order
  *   set       4 for each record, table_len  starts with the read set, a space and an index for each member
- *   counts    7                             starts with how many records are left, how many statics and members of the
- *                                           set there are, how many nops, loads, moves and saves were dropped
+ *   counts    8                             starts with how many records are left, how many statics and members of the
+ *                                           set there are, how many nops, loads, moves and saves were dropped, and how
+ *                                           full the registers got
+ *
+ * The last count is the largest number that a choice gives, 0 if none is made. A choice is made for each general register that
+ * a record writes; its number is how many colours have, once it is made, a life above the record's index. A life is the largest
+ * end of the statics that the colour was given since the last Label, Call, Branch or BranchIf, else 0. For an accepted list the
+ * count is at most count_regs, and 0 exactly if no record reads a general register.
  */
 uint64_t rudzaviks_optimize(
     const uint32_t *list, size_t list_len,

@@ -28,7 +28,8 @@
 //! # Ok::<(), rudzaviks::Refusal>(())
 //! ```
 //!
-//! [`survey()`] tells which registers a list uses, and where its labels are.
+//! [`survey()`] tells which registers a list uses, and where its labels are; [`pressure`] how many
+//! registers are needed at once.
 //!
 //! Lists can be written and read as [`text`], and as a [`mod@file`] of words; the command-line tool
 //! `rudzaviks` does both, and shows what became of each line.
@@ -38,6 +39,7 @@
 pub mod ffi;
 pub mod file;
 pub mod mir;
+pub mod pressure;
 pub mod record;
 pub mod text;
 

@@ -3,6 +3,7 @@
 use crate::ffi::{optimize, Answer, Buffers, Counts, Refusal, Settings};
 use crate::instruction::Instruction;
 use crate::outcome::{outcomes, Outcome};
+use crate::pressure::{self, Stretch};
 use crate::record::{Records, WORDS};
 
 /// What is left of a list, and what became of each of its instructions.
@@ -10,10 +11,20 @@ use crate::record::{Records, WORDS};
 pub struct Reduced {
     /// The shortened list.
     pub list: Vec<Instruction>,
-    /// How many instructions are left, and how many of each sort were dropped.
+    /// How many instructions are left, how many of each sort were dropped, and how full the registers
+    /// got.
     pub counts: Counts,
     /// What became of each instruction of the given list, in order.
     pub outcomes: Vec<Outcome>,
+    /// How long each value that is written to a general register is needed, in the order of writing.
+    pub stretches: Vec<Stretch>,
+}
+
+impl Reduced {
+    /// How many registers are needed past each instruction of the given list.
+    pub fn needed(&self) -> Vec<u32> {
+        pressure::needed(&self.stretches, self.outcomes.len())
+    }
 }
 
 /// Shortens a list, or says why it can't be.
@@ -29,6 +40,7 @@ pub fn reduce(list: &[Instruction], settings: &Settings) -> Result<Reduced, Refu
         Answer::Refused(refusal) => Err(refusal),
         Answer::Reduced(counts) => Ok(Reduced {
             outcomes: outcomes(list, settings, &counts, &buffers),
+            stretches: pressure::stretches(list, &buffers.colours, &buffers.ends),
             list: left(buffers.out, counts.records, table),
             counts,
         }),

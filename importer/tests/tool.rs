@@ -18,7 +18,7 @@ const BRANCH: &str = concat!(env!("CARGO_MANIFEST_DIR"), "/samples/branch.txt");
 /// A list that is refused: the original reduces it, and then it computes something else.
 const PAST_BRANCH: &str = concat!(env!("CARGO_MANIFEST_DIR"), "/samples/past_branch.txt");
 
-const COMMANDS: [&str; 5] = ["reduce", "check", "survey", "assemble", "disassemble"];
+const COMMANDS: [&str; 6] = ["reduce", "check", "survey", "pressure", "assemble", "disassemble"];
 
 /// What a run of the tool gave.
 struct RunOutput {
@@ -87,9 +87,9 @@ fn the_sample_is_shown_before_and_after() {
     for reason in ["does nothing", "is already in", "onto itself", "nothing kept reads"] {
         assert!(output.out().contains(reason), "{reason}");
     }
-    let last = output.out().lines().last();
-    let counts = "26 instructions before, 19 after; dropped: 1 nop, 3 loads, 1 move, 2 saves";
-    assert_eq!(last, Some(counts));
+    let counts = "26 instructions before, 19 after; dropped: 1 nop, 3 loads, 1 move, 2 saves\n\
+                  at most 3 of 4 registers needed at once\n";
+    assert!(output.out().ends_with(counts), "{}", output.out());
 }
 
 /// That a sample is shown with these lines after the mark, by number, and these counts.
@@ -113,7 +113,9 @@ fn the_two_part_sample_is_shown_before_and_after() {
         (17, '<', "dropped: Stack[16] is already in %2, and Stack[17] in %1"),
         (18, '|', "Mem[2] := (%2 + %1*im)"),
     ];
-    is_shown(TWO_PART, &lines, "8 instructions before, 6 after; dropped: 1 load, 1 save");
+    let counts = "8 instructions before, 6 after; dropped: 1 load, 1 save\n\
+                  at most 2 of 4 registers needed at once";
+    is_shown(TWO_PART, &lines, counts);
 }
 
 /// The text with four spaces before each line.
@@ -136,6 +138,10 @@ fn the_readme_shows_what_the_samples_give() {
         let shown = indented(lists.take_while(|line| !line.is_empty()));
         assert!(readme.contains(&shown), "the README should have:\n{shown}");
     }
+    let output = run(&["pressure", SAMPLE], b"").succeeds();
+    let command = "    ./rudzaviks pressure importer/samples/volume.txt\n\n";
+    let shown = format!("{command}{}", indented(output.out().lines().skip(2)));
+    assert!(readme.contains(&shown), "the README should have:\n{shown}");
     let output = run(&["survey", BRANCH], b"").succeeds();
     let shown = indented(output.out().lines().skip_while(|line| !line.is_empty()));
     let command = "    ./rudzaviks survey importer/samples/branch.txt\n";
@@ -156,7 +162,9 @@ fn the_sample_with_a_loop_is_shown_before_and_after() {
         (33, '|', "if %3 goto 7"),
         (37, ' ', "%1 := Mem[2]"),
     ];
-    is_shown(BRANCH, &lines, "22 instructions before, 19 after; dropped: 2 loads, 1 save");
+    let counts = "22 instructions before, 19 after; dropped: 2 loads, 1 save\n\
+                  at most 2 of 4 registers needed at once";
+    is_shown(BRANCH, &lines, counts);
 }
 
 #[test]
@@ -200,7 +208,9 @@ fn long_instructions_are_broken() {
     );
     let output = run_on("reduce", &list).succeeds();
     lines_fit(output.out());
-    assert!(output.out().ends_with("4 instructions before, 4 after; dropped: nothing\n"));
+    let counts = "4 instructions before, 4 after; dropped: nothing\n\
+                  at most 2 of 32 registers needed at once\n";
+    assert!(output.out().ends_with(counts));
 }
 
 #[test]
@@ -221,7 +231,7 @@ fn a_mistake_is_shown_with_its_line_and_column() {
 fn a_refusal_is_explained_with_the_line() {
     let seven = "settings count_regs=2\n%0 := Mem[0]\n\n%1 := %0 Plus %2\n";
     let nine = "settings count_regs=2\n%0 := Mem[0]\n7:\nMem[1] := %0  # the sum\n";
-    for command in ["reduce", "check", "survey"] {
+    for command in ["reduce", "check", "survey", "pressure"] {
         run_on(command, seven).fails(
             1,
             &[
@@ -231,7 +241,7 @@ fn a_refusal_is_explained_with_the_line() {
             ],
         );
     }
-    for command in ["reduce", "check"] {
+    for command in ["reduce", "check", "pressure"] {
         run_on(command, nine).fails(
             1,
             &[
@@ -299,7 +309,7 @@ fn refusals_of_every_other_question_are_explained() {
         file[at..at + 4].copy_from_slice(&value.to_le_bytes());
         file
     };
-    for command in ["reduce", "check", "survey", "disassemble"] {
+    for command in ["reduce", "check", "survey", "pressure", "disassemble"] {
         let kind =
             ["refused by question 5 at record 0", "    0 | 21 0 1 0 0 0 0 0", "word 0 is 21"];
         run(&[command, "-"], &damaged(0, 21)).fails(1, &kind);
@@ -446,10 +456,114 @@ fn a_survey_explains_a_refusal_as_check_does() {
 }
 
 #[test]
+fn counts_are_given_as_numbers() {
+    let sample = run(&["reduce", "--stats", SAMPLE], b"").succeeds();
+    let expected = "\
+instructions before                  26
+instructions after                   19
+nops dropped                          1
+loads dropped                         3
+moves dropped                         1
+saves dropped                         2
+values written to general registers  19
+locations read                        8
+general registers                     4
+most registers needed at once         3
+";
+    assert_eq!(sample.out(), expected);
+    let file = run(&["assemble", SAMPLE], b"").succeeds().out;
+    assert_eq!(run(&["reduce", "-", "--stats"], &file).succeeds().out(), expected);
+    let empty = run(&["reduce", "--stats", "-"], b"settings count_regs=64\n").succeeds();
+    let numbers = empty.out().lines().map(|line| line.split_at(37).1);
+    let expected = [" 0", " 0", " 0", " 0", " 0", " 0", " 0", " 0", "64", " 0"];
+    assert_eq!(numbers.collect::<Vec<_>>(), expected);
+    run(&["reduce", "--stats", "-"], b"settings count_regs=65\n").fails(1, &["question 1"]);
+}
+
+#[test]
+fn pressure_is_shown_line_by_line() {
+    let shown = run(&["pressure", TWO_PART], b"").succeeds();
+    let expected = "\
+settings count_regs=4 args=0 complex
+
+line  instruction                 registers needed past it
+  11  %0 := Mem[0]                1 #
+  12  %0 := %0 Minus Param[0]     1 #
+  13  Mem[0] := %0                0
+  14  (%0 + %1*im) := Mem[0]      2 ##
+  15  %1 := Neg(%1)               2 ##
+  16  Stack[16] := (%1 + %0*im) < 0
+  17  (%2 + %3*im) := Stack[16] < 2 ##
+  18  Mem[2] := (%2 + %3*im)      0
+
+8 instructions, 2 dropped (<)
+at most 2 of 4 registers needed at once, first at line 14
+";
+    assert_eq!(shown.out(), expected);
+    for sample in [SAMPLE, BRANCH] {
+        lines_fit(run(&["pressure", sample], b"").succeeds().out());
+    }
+    let file = run(&["assemble", TWO_PART], b"").succeeds().out;
+    let of_file = run(&["pressure", "-"], &file).succeeds();
+    assert!(of_file.out().contains("\nrecord  instruction  "), "{}", of_file.out());
+    assert!(of_file.out().ends_with(" needed at once, first at record 3\n"));
+}
+
+#[test]
+fn pressure_may_be_none() {
+    let none = "no value is needed past the instruction that writes it\n";
+    let empty = run_on("pressure", "settings count_regs=4\n").succeeds();
+    assert!(empty.out().ends_with(&format!("\n\nno instructions\n{none}")), "{}", empty.out());
+    let unread = run_on("pressure", "settings count_regs=1\n%0 := Mem[0]\n").succeeds();
+    let expected = "\
+settings count_regs=1 args=0
+
+line  instruction    registers needed past it
+   2  %0 := Mem[0]   0
+
+1 instruction, none dropped
+";
+    assert_eq!(unread.out(), format!("{expected}{none}"));
+    let named = run_on("pressure", "settings count_regs=0\nnop\n%t := Mem[0]\n").succeeds();
+    assert!(named.out().ends_with(&format!("\n2 instructions, 1 dropped (<)\n{none}")));
+    let reduced = run_on("reduce", "settings count_regs=1\n%0 := Mem[0]\n").succeeds();
+    let counts = "\n1 instruction before, 1 after; dropped: nothing\n";
+    assert!(reduced.out().ends_with(&format!("{counts}{none}")), "{}", reduced.out());
+}
+
+#[test]
+fn one_register_of_one_may_be_needed() {
+    let list = "settings count_regs=1\n%0 := Mem[0]\nMem[1] := %0\n";
+    let said = "\nat most 1 of 1 register needed at once";
+    let shown = run_on("pressure", list).succeeds();
+    assert!(shown.out().ends_with(&format!("{said}, first at line 2\n")), "{}", shown.out());
+    assert!(run_on("reduce", list).succeeds().out().ends_with(&format!("{said}\n")));
+}
+
+/// The widest bar leaves room for the longest instructions, which are broken.
+#[test]
+fn every_register_may_be_needed() {
+    let loads = (0..64).map(|number| format!("%{number} := Mem[{number}]\n"));
+    let saves = (0..64).map(|number| format!("Mem[4294967231] := %{number}\n"));
+    let long = "(%0 + %63*im) := (%61 + %62*im) Divide (%60 + %59*im)\n".to_string();
+    let list: String = loads.chain(saves).chain([long]).collect();
+    let shown = run_on("pressure", &format!("settings count_regs=64\n{list}")).succeeds();
+    lines_fit(shown.out());
+    let fullest = format!("  65  {:24}   64 {}\n", "%63 := Mem[63]", "#".repeat(64));
+    assert!(shown.out().contains(&fullest), "{}", shown.out());
+    assert!(shown.out().ends_with("at most 64 of 64 registers needed at once, first at line 65\n"));
+    let locations = ["Stack[4294967295]"; 12].join(", ");
+    let list = format!("settings count_regs=1\nLoad Args [{locations}]; real, false\n");
+    lines_fit(run_on("pressure", &list).succeeds().out());
+}
+
+#[test]
 fn a_list_too_long_for_a_file_is_reduced_all_the_same() {
     let list = format!("settings count_regs=1\n{}%0 := Mem[0]\n", "nop\n".repeat(512));
     let output = run_on("reduce", &list).succeeds();
-    assert!(output.out().ends_with("513 instructions before, 1 after; dropped: 512 nops\n"));
+    let counts = "\n513 instructions before, 1 after; dropped: 512 nops\n\
+                  no value is needed past the instruction that writes it\n";
+    assert!(output.out().ends_with(counts));
     run_on("check", &list).succeeds();
     run_on("assemble", &list).fails(1, &["question 3", "513 records", "a file holds 512"]);
 }
@@ -478,7 +592,14 @@ fn what_can_not_be_done_is_said() {
     run(&["shorten", "x"], b"").fails(2, &["`shorten` is no command"]);
     run(&["reduce"], b"").fails(2, &["FILE is missing", "rudzaviks reduce --help"]);
     run(&["check", "--plain", "-"], b"").fails(2, &["`--plain` is no option of check"]);
+    run(&["reduce", "--stats", "--plain", "-"], b"").fails(2, &["are not for one run"]);
+    run(&["pressure", "--plain", "-"], b"").fails(2, &["`--plain` is no option of pressure"]);
+    run(&["reduce", "-", "--svg", "x"], b"").fails(2, &["`--svg` is no option of reduce"]);
+    run(&["pressure", "-", "--svg"], b"")
+        .fails(2, &["--svg needs a name", "rudzaviks pressure --help"]);
+    run(&["pressure", "--svg", "x"], b"").fails(2, &["FILE is missing"]);
     let nowhere = place("no such folder/list.txt");
+    run(&["pressure", SAMPLE, "--svg", &nowhere], b"").fails(2, &["can't write", &nowhere]);
     run(&["check", &nowhere], b"").fails(2, &["can't read", &nowhere]);
     run(&["disassemble", SAMPLE, "-o", &nowhere], b"").fails(2, &["can't write", &nowhere]);
     run(&["check", "-"], b"\xff").fails(2, &["neither text (in UTF-8) nor a file of words"]);

@@ -3,7 +3,7 @@
 -- By the laws of a slice that starts with words, destination by destination.
 use Rattle.passes.specs.declared.symbol.Loc.{Loc}
 use Rattle.std.specs.Prelude.{Option}
-use Prim.Native.Nat.{ℕ, zero, suc, ◌+◌, ◌<◌, ◌≤◌}
+use Prim.Native.Nat.{ℕ, zero, suc, ◌+◌, ◌<◌, ◌≤◌, max}
 use mathlib.Core.Bool.{Bool, true, false, cond}
 use mathlib.Core.List.{List, [], ◌∷◌, ◌++◌, append-nil, append_assoc}
 use mathlib.Core.Path.{◌≡◌, refl, sym, ap, subst, ◌∙◌}
@@ -18,14 +18,14 @@ use Rattle.mir.specs.Renaming.{one, gens}
 use Rattle.passes.specs.declared.alloc.Alloc.{Alloc}
 use Rattle.passes.specs.declared.alloc.Choice.{Choice}
 use Rattle.passes.specs.declared.alloc.Choice.TheVariants.{Found, Free, Empty}
-use Rattle.passes.specs.Color.{Coloring, choose, chosen, is_found, choice_for, assign, after_dest, after_dests, HasPool, HavePools}
+use Rattle.passes.specs.Color.{Coloring, choose, chosen, is_found, choice_for, assign, after_dest, after_dests, HasPool, HavePools, fullest_for}
 use Rattle.theorems.proofs.Choice.{pool_not_empty}
 use Rattle.theorems.proofs.Pool.{words}
 use Rattle.mir.specs.Answers.{over}
 use Rattle.colours.specs.declared.allocs.Allocs.{Allocs}
 use Rattle.colours.specs.Colours.{allocs_in, Stands}
 use Rattle.colours.specs.Masks.{Masked}
-use Rattle.coloring.specs.Coloring.{Slices, slices, slices_in, SlicesAre, mark, dest_step, dest_steps, Picks, ReadyFor, Ready, founds_for, marked}
+use Rattle.coloring.specs.Coloring.{Slices, slices, slices_in, SlicesAre, mark, dest_step, dest_steps, dest_needed, most_needed, Picks, ReadyFor, Ready, founds_for, marked}
 use Rattle.mir.proofs.Over.{over_get, over_set, over_next}
 
 pub slices_same : {a : List Alloc} {c e : List ℕ} (σ : Slices) → a ≡ σ.allocs → c ≡ σ.colours → e ≡ σ.ends → slices a c e ≡ σ
@@ -191,6 +191,19 @@ module _ (n i : ℕ) (E C0 E0 : List ℕ) (wide : length E ≤ length C0) (small
       ∙ (dests_at_lem ds (after_dest n i E d.0 d.1 st) (fs ++ cond (is_gen d.0) (g ∷ []) []) (next + one d.0)
       (ap (λ k. k + one d.0) e ∙ sym (made d.0 d.1 st)) (ap (λ k. k + one d.0) f ∙ sym (flagged d.0 g fs)) (omega arith)
       ∙ ap (at (after_dests n i E ds (after_dest n i E d.0 d.1 st))) (append_assoc fs (cond (is_gen d.0) (g ∷ []) []) (founds_for n i E ds (after_dest n i E d.0 d.1 st))))
+
+  -- the most that a choice leaves needed is the definitions'
+  pub most_at : (ds : List (ℕ × Option Loc)) (st : Coloring) (fs : List Bool) (next : ℕ) → next ≡ length st.colours → next ≡ length fs → next + gens (words ds) ≤ length E
+      → most_needed n i next ds (at st fs) ≡ fullest_for n i E ds st
+  unfolding most_needed fullest_for gens words
+  most_at [] st fs next e f h = refl
+  most_at (d ∷ ds) st fs next e f h =
+      let g = is_found (choice_for n i d.1 st) in
+      let after = after_dest n i E d.0 d.1 st in
+      let gs = fs ++ cond (is_gen d.0) (g ∷ []) [] in
+      ap (λ σ. max (dest_needed n i d.0 σ) (most_needed n i (next + one d.0) ds σ)) (dest_at d.0 d.1 st fs next e f (omega arith))
+      ∙ ap (max (dest_needed n i d.0 (at after gs)))
+      (most_at ds after gs (next + one d.0) (ap (λ k. k + one d.0) e ∙ sym (made d.0 d.1 st)) (ap (λ k. k + one d.0) f ∙ sym (flagged d.0 g fs)) (omega arith))
 
   pub ready_at : (ds : List (ℕ × Option Loc)) (st : Coloring) (fs : List Bool) (next : ℕ) → next ≡ length st.colours → next ≡ length fs → next + gens (words ds) ≤ length E
       → HavePools n i E ds st → Ready n i next ds (at st fs)

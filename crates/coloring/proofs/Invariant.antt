@@ -15,7 +15,7 @@ use Rattle.mir.specs.Shapes.{any, dests}
 use Rattle.mir.proofs.Passing.{ListPasses}
 use Rattle.mir.specs.declared.rename.Renaming.{Renaming}
 use Rattle.mir.proofs.Renaming.{statics_two}
-use Rattle.passes.specs.Color.{setup, loc_of, joined, found_at, color_to}
+use Rattle.passes.specs.Color.{setup, loc_of, joined, found_at, color_to, fullest_at}
 use Rattle.passes.specs.Create.{ends_of}
 use Rattle.theorems.proofs.Create.{ends_fit}
 use Rattle.theorems.proofs.ReadSet.{reads_at, members_next}
@@ -24,14 +24,14 @@ use Rattle.theorems.proofs.NeverEmpty.{ready_to}
 use Rattle.colours.specs.declared.allocs.Allocs.{Allocs}
 use Rattle.colours.specs.Masks.{Expired}
 use Rattle.colours.proofs.Expiring.{expired_stands}
-use Rattle.coloring.specs.Coloring.{slices_in, SlicesAre, Ready, Coloured, source_words, wanted_by, record_step, was_found, reads_of, founds_to, marked}
+use Rattle.coloring.specs.Coloring.{slices_in, SlicesAre, Ready, Coloured, source_words, wanted_by, record_step, most_needed, was_found, reads_of, founds_to, marked}
 use Rattle.coloring.proofs.Dests.{marked_length, lent_are}
 use Rattle.mir.proofs.Over.{over_length}
 use Rattle.sets.specs.declared.ReadSet.{ReadSet}
 use Rattle.sets.specs.Members.{members_in, SetHolds}
 use Rattle.sets.proofs.Pairs.{holds_length, holds_more, joined_grows}
 use Rattle.coloring.specs.Walk.{State, state, Holds, Called, Colouring, slices_at}
-use Rattle.coloring.proofs.Record.{sources_fit, sources_due, record_ready, record_step_lem, found_after}
+use Rattle.coloring.proofs.Record.{sources_fit, sources_due, record_ready, record_step_lem, record_most, found_after}
 use Rattle.coloring.proofs.Sources.{space_below, coloured_in}
 use Rattle.lives.proofs.Registers.{passing_list, few_words, few_statics}
 
@@ -113,6 +113,14 @@ module _ {s : Settings} {list table C0 E0 : List ℕ} {S0 : ReadSet} where
           color_gives {after} {cs} {es} =
               subst (λ σ. SlicesAre s.count_regs i σ after cs es)
               (rw (lent_are h, inv.walked.regs_are, inv.walked.statics_are, e) (record_step_lem s list table (passes inv.called) C0 E0 (wide inv.called) i l))
+
+          -- and the most that a choice of it leaves needed
+          pub color_most : {most : ℕ} → most ≡ most_needed s.count_regs i r.statics (wanted_by r.regs rec (slices_in freed st.colours st.ends)) (slices_in freed st.colours st.ends)
+              → most ≡ fullest_at (setup s list table) i
+          color_most most =
+              most
+              ∙ subst (λ σ. most_needed s.count_regs i r.statics (wanted_by r.regs rec σ) σ ≡ fullest_at (setup s list table) i) (sym (lent_are h))
+              (rw (inv.walked.regs_are, inv.walked.statics_are, e) (record_most s list table (passes inv.called) C0 E0 (wide inv.called) i l))
 
         pub found_gives : {found : Bool} {after : State} → found ≡ was_found (dests rec) r.statics after.ends → Holds s list table C0 E0 (i + 1) i after
             → found ≡ found_at (setup s list table) i (color_to (setup s list table) i)

@@ -21,7 +21,7 @@ use Rattle.mir.specs.Renaming.{one, gens, statics_to, regs_to}
 use Rattle.mir.specs.Shapes.{shape_for, dests, sources}
 use Rattle.mir.proofs.Passing.{ListPasses}
 use Rattle.passes.specs.Color.{Coloring, Setup, setup, colour_at, colour_of, source_word, held_by, want_x, want_y, wanted, update_allocs, loc_of}
-use Rattle.passes.specs.Color.{is_found, choice_for, after_dest, sources_at, dests_at, found_all, found_at, color_step, color_to}
+use Rattle.passes.specs.Color.{is_found, choice_for, after_dest, sources_at, dests_at, found_all, found_at, color_step, color_to, fullest_at}
 use Rattle.passes.specs.Create.{ends_of}
 use Rattle.theorems.proofs.Create.{In, names_to, ends_length, ends_below, statics_mono, ends_count}
 use Rattle.theorems.proofs.Due.{due}
@@ -29,9 +29,9 @@ use Rattle.theorems.proofs.NeverEmpty.{source_below, ready_to, choices_of, wante
 use Rattle.theorems.proofs.Pool.{words}
 use Rattle.mir.specs.Answers.{over}
 use Rattle.coloring.specs.Walk.{slices_at}
-use Rattle.coloring.specs.Coloring.{Slices, dest_steps, Ready, Coloured, source_words, wanted_by, record_step, was_found, founds_for, founds_to, marked}
+use Rattle.coloring.specs.Coloring.{Slices, dest_steps, most_needed, Ready, Coloured, source_words, wanted_by, record_step, was_found, founds_for, founds_to, marked}
 use Rattle.mir.proofs.Over.{over_get}
-use Rattle.coloring.proofs.Dests.{slices_same, marked_length, marked_at, mark_shows, dests_at_lem, ready_at}
+use Rattle.coloring.proofs.Dests.{slices_same, marked_length, marked_at, mark_shows, dests_at_lem, most_at, ready_at}
 
 -- as many flags as statics
 founds_for_length : (n i : ℕ) (E : List ℕ) (ds : List (ℕ × Option Loc)) (st : Coloring) → length (founds_for n i E ds st) ≡ gens (words ds)
@@ -195,6 +195,11 @@ module _ (s : Settings) (list table : List ℕ) (passes : ListPasses s list tabl
         (ap (λ ws. update_allocs (shape_for rec).action (loc_of rec) (get_or ws 0 0) (get_or ws 1 0) given.allocs) same_sources
         ∙ ap (λ (τ : Slices). update_allocs (shape_for rec).action (loc_of rec) (get_or (sources_at u i st) 0 0) (get_or (sources_at u i st) 1 0) τ.allocs) d)
         (ap (λ (τ : Slices). τ.colours) d) (ap (λ (τ : Slices). τ.ends) d))
+
+    pub record_most : most_needed s.count_regs i (statics_to list i) (wanted_by (regs_to list i) rec σ) σ ≡ fullest_at u i
+    record_most =
+        ap (λ ws. most_needed s.count_regs i (statics_to list i) ws σ) same_wanted
+        ∙ most_at s.count_regs i (ends_of list) C0 E0 wide small ds st (founds_to u i) (statics_to list i) (sym colours_length) (sym (founds_length i)) words_room
 
     -- with any flags that agree with the walk's where the record's statics stand
     pub found_flags : (fs : List Bool)

@@ -1,5 +1,5 @@
 -- Inner: what the second walk does to the colours' state and the lent slices.
-use Rattle.std.specs.Prelude.{ℕ, zero, suc, ◌+◌, ◌<◌, Bool, true, cond, ◌&&◌, not, List, [], ◌∷◌, ◌++◌, map, ◌≡◌, leb, eqb, length, get_or, set, Option}
+use Rattle.std.specs.Prelude.{ℕ, zero, suc, ◌+◌, ◌<◌, Bool, true, cond, ◌&&◌, not, max, List, [], ◌∷◌, ◌++◌, map, ◌≡◌, leb, eqb, length, get_or, set, Option}
 use Rattle.mir.specs.declared.config.Settings.{Settings}
 use Rattle.mir.specs.Records.{records, is_gen, word_at}
 use Rattle.mir.specs.Renaming.{one}
@@ -11,7 +11,7 @@ use Rattle.passes.specs.declared.alloc.Choice.{Choice}
 use Rattle.passes.specs.declared.alloc.Choice.TheVariants.{Found, Free, Empty}
 use Rattle.passes.specs.declared.symbol.Loc.{Loc}
 use Rattle.passes.specs.Color.{Coloring, Setup, setup, choice_for, after_dest, dests_at, color_to, choose, chosen, assign, is_found, source_word}
-use Rattle.passes.specs.Color.{held_by, want_x, want_y, wanted, update_allocs, loc_of, reads, pairs_from}
+use Rattle.passes.specs.Color.{needed, held_by, want_x, want_y, wanted, update_allocs, loc_of, reads, pairs_from}
 use Rattle.passes.specs.Create.{ends_of}
 
 -- the colours' state, beside the lent slices of colours and of ends
@@ -52,6 +52,17 @@ dest_step n i next w held σ =
 unfoldable pub dest_steps : ℕ → ℕ → ℕ → List (ℕ × Option Loc) → Slices → Slices
 dest_steps n i next [] σ = σ
 dest_steps n i next (d ∷ ds) σ = dest_steps n i (next + one d.0) ds (dest_step n i next d.0 d.1 σ)
+
+-- how many colours are needed past instruction i once a destination has made its choice, where it makes one; and the most that any of
+-- the destinations leaves
+abbrev pub dest_needed : ℕ → ℕ → ℕ → Slices → ℕ
+dest_needed n i w σ = cond (is_gen w) (needed n i σ.allocs) 0
+
+unfoldable pub most_needed : ℕ → ℕ → ℕ → List (ℕ × Option Loc) → Slices → ℕ
+most_needed n i next [] σ = 0
+most_needed n i next (d ∷ ds) σ =
+    let after = dest_step n i next d.0 d.1 σ in
+    max (dest_needed n i d.0 after) (most_needed n i (next + one d.0) ds after)
 
 -- a choice that is not `Empty`
 abbrev pub Picks : Choice → Type 0

@@ -5,7 +5,7 @@ use Rattle.mir.specs.Answers.{over}
 use Rattle.mir.specs.Records.{records, record_at}
 use Rattle.mir.specs.declared.rename.Renaming.{Renaming}
 use Rattle.mir.proofs.Renaming.{Walked}
-use Rattle.passes.specs.Color.{setup, color_to}
+use Rattle.passes.specs.Color.{setup, color_to, fullest_at}
 use Rattle.passes.specs.Create.{ends_of}
 use Rattle.passes.specs.Machine.{Passing}
 use Rattle.colours.specs.declared.allocs.Allocs.{Allocs}
@@ -56,8 +56,10 @@ pub record MayTurn (table : List ℕ) (i : ℕ) (rec : List ℕ) (st : State) (s
   pub within : i < length list / 8
   pub here : rec ≡ record_at list i
 
--- the record's turn: what the walk keeps, it keeps after the record too, whatever list the record is of
-abbrev pub Turned : List ℕ → ℕ → List ℕ → State → ReadSet → Renaming → State → ReadSet → Renaming → Type 0
-Turned table i rec st set r st' set' r' =
+-- the record's turn: what the walk keeps, it keeps after the record too, whatever list the record is of, and it tells how full the
+-- registers got
+abbrev pub Turned : List ℕ → ℕ → List ℕ → State → ReadSet → Renaming → State → ReadSet → Renaming → ℕ → Type 0
+Turned table i rec st set r st' set' r' most =
     (s : Settings) (list C0 E0 : List ℕ) (S0 : ReadSet) → Colouring s list table C0 E0 S0 i st set r
-    → i < length list / 8 → rec ≡ record_at list i → Colouring s list table C0 E0 S0 (i + 1) st' set' r'
+    → i < length list / 8 → rec ≡ record_at list i
+    → Colouring s list table C0 E0 S0 (i + 1) st' set' r' × (most ≡ fullest_at (setup s list table) i)

@@ -7,7 +7,7 @@ ghost use Rattle.colours.specs.Colours.{nothing, held_in, allocs_in, Stands, sou
 ghost use Rattle.colours.specs.Masks.{Masked, Expired};
 ghost use Rattle.sets.specs.Members.{members_in, SetHolds};
 ghost use Rattle.coloring.specs.Walk.{MayTurn, Turned, state};
-ghost use Rattle.coloring.specs.Coloring.{slices_in, SlicesAre, dest_step, dest_steps, ReadyFor, Ready, Coloured, source_words, wanted_by, record_step, was_found, reads_of, marked_ends};
+ghost use Rattle.coloring.specs.Coloring.{slices_in, SlicesAre, dest_step, dest_steps, dest_needed, most_needed, ReadyFor, Ready, Coloured, source_words, wanted_by, record_step, was_found, reads_of, marked_ends};
 ghost use Rattle.mir.specs.Questions.{fields_fit, partner_fits};
 ghost use Rattle.mir.specs.Records.{is_gen, max_regs, records, record_at, word_at};
 ghost use Rattle.mir.specs.Shapes.{any, dests};
@@ -15,7 +15,7 @@ ghost use Rattle.mir.specs.declared.shape.Action.TheVariants as act;
 ghost use Rattle.passes.specs.declared.alloc.Alloc.{Alloc};
 ghost use Rattle.passes.specs.Color.{joined, loc_of, source_word, held_by, want_x, want_y, wanted};
 ghost use Rattle.passes.specs.Color as color;
-ghost use Rattle.passes.specs.Contract.{colours_of, members_of};
+ghost use Rattle.passes.specs.Contract.{colours_of, members_of, fullest_of};
 ghost use Rattle.passes.specs.Create.{ends_of};
 ghost use Rattle.passes.specs.Machine.{Passing};
 
@@ -135,7 +135,8 @@ pub fn loc_of(kind: u32, rec: &Record) -> Loc
     }
 }
 
-// One destination: the static `next`, if it is Gen, takes a colour. The pool is never empty on a list that passes.
+// One destination: the static `next`, if it is Gen, takes a colour. The pool is never empty on a list that passes. Answers how many
+// colours are needed past the record then, and 0 where there was nothing to choose.
 fn color_dest(
     allocs: &mut Allocs,
     w: u32,
@@ -144,32 +145,34 @@ fn color_dest(
     next: usize,
     colours: &mut [u32],
     ends: &mut [u32],
-)
+) -> u32
     requires masked { Masked allocs.old.count i allocs.old.masks (allocs_in allocs.old.lives allocs.old.locs) }
     requires colours_room { next < length colours.old }
     requires ends_room { next < length ends.old }
     requires ready_for { ReadyFor allocs.old.count i next w (held_in want) (slices_in allocs.old colours.old ends.old) }
-    ensures { SlicesAre allocs.old.count i (dest_step allocs.old.count i next w (held_in want) (slices_in allocs.old colours.old ends.old)) allocs.new colours.new ends.new }
+    ensures slices { SlicesAre allocs.old.count i (dest_step allocs.old.count i next w (held_in want) (slices_in allocs.old colours.old ends.old)) allocs.new colours.new ends.new }
+    ensures needed { result ≡ dest_needed allocs.old.count i w (dest_step allocs.old.count i next w (held_in want) (slices_in allocs.old colours.old ends.old)) }
 {
     if 256 <= w {
-        return;
+        return 0;
     }
     let end = ends[next];
     match allocs.choose(want) {
         Choice::Found(c) => {
             colours[next] = c;
             ends[next] = end + FOUND;
-            allocs.assign(c, end, want, i);
+            allocs.assign(c, end, want, i)
         }
         Choice::Free(c) => {
             colours[next] = c;
-            allocs.assign(c, end, want, i);
+            allocs.assign(c, end, want, i)
         }
-        Choice::Empty => {}
+        Choice::Empty => 0,
     }
 }
 
-// The destinations of a record, x before y, which has the static after x's (mir/rename.rt has why it is counted here).
+// The destinations of a record, x before y, which has the static after x's (mir/rename.rt has why it is counted here). Answers the
+// most colours that a choice leaves needed.
 #[inline(always)]
 fn color_dests(
     allocs: &mut Allocs,
@@ -181,26 +184,27 @@ fn color_dests(
     next: usize,
     colours: &mut [u32],
     ends: &mut [u32],
-)
+) -> u32
     requires kind_is { kind ≡ word_at rec.now 0 }
     requires masked { Masked allocs.old.count i allocs.old.masks (allocs_in allocs.old.lives allocs.old.locs) }
     requires colours_room { next + 2 ≤ length colours.old }
     requires ends_room { next + 2 ≤ length ends.old }
     requires ready { Ready allocs.old.count i next (wanted (dests rec.now) (held_in hx) (held_in hy)) (slices_in allocs.old colours.old ends.old) }
-    ensures { SlicesAre allocs.old.count i (dest_steps allocs.old.count i next (wanted (dests rec.now) (held_in hx) (held_in hy)) (slices_in allocs.old colours.old ends.old)) allocs.new colours.new ends.new }
+    ensures slices { SlicesAre allocs.old.count i (dest_steps allocs.old.count i next (wanted (dests rec.now) (held_in hx) (held_in hy)) (slices_in allocs.old colours.old ends.old)) allocs.new colours.new ends.new }
+    ensures most { result ≡ most_needed allocs.old.count i next (wanted (dests rec.now) (held_in hx) (held_in hy)) (slices_in allocs.old colours.old ends.old) }
 {
     match dests_of(kind, rec) {
-        Dests::Nothing => {}
+        Dests::Nothing => 0,
         Dests::One(x) => color_dest(allocs, x, hx, i, next, colours, ends),
         Dests::Two(x, y) => {
-            color_dest(allocs, x, hx, i, next, colours, ends);
+            let needed = color_dest(allocs, x, hx, i, next, colours, ends);
             let after = next + (count_static(x) as usize);
-            color_dest(allocs, y, hy, i, after, colours, ends);
+            needed.max(color_dest(allocs, y, hy, i, after, colours, ends))
         }
     }
 }
 
-// One record.
+// One record. Answers the most colours that a choice leaves needed.
 #[inline(always)]
 fn color_record(
     allocs: &mut Allocs,
@@ -210,7 +214,7 @@ fn color_record(
     i: u32,
     colours: &mut [u32],
     ends: &mut [u32],
-)
+) -> u32
     requires kind_is { kind ≡ word_at rec.now 0 }
     requires partner_fits { partner_fits rec.now ≡ true }
     requires space_bound { (loc_of rec.now).space < any }
@@ -219,7 +223,8 @@ fn color_record(
     requires colours_room { renaming.now.statics + 2 ≤ length colours.old }
     requires ends_room { renaming.now.statics + 2 ≤ length ends.old }
     requires ready { Ready allocs.old.count i renaming.now.statics (wanted_by renaming.now.regs rec.now (slices_in allocs.old colours.old ends.old)) (slices_in allocs.old colours.old ends.old) }
-    ensures { SlicesAre allocs.old.count i (record_step allocs.old.count i renaming.now.statics renaming.now.regs rec.now (slices_in allocs.old colours.old ends.old)) allocs.new colours.new ends.new }
+    ensures slices { SlicesAre allocs.old.count i (record_step allocs.old.count i renaming.now.statics renaming.now.regs rec.now (slices_in allocs.old colours.old ends.old)) allocs.new colours.new ends.new }
+    ensures most { result ≡ most_needed allocs.old.count i renaming.now.statics (wanted_by renaming.now.regs rec.now (slices_in allocs.old colours.old ends.old)) (slices_in allocs.old colours.old ends.old) }
 {
     let s = shape_of(kind);
     let action = s.action;
@@ -228,7 +233,7 @@ fn color_record(
     let y = source_at(renaming, kind, rec, 1, colours);
     let hx = want_x(action, l, x, allocs);
     let hy = want_y(action, l);
-    color_dests(
+    let most = color_dests(
         allocs,
         kind,
         rec,
@@ -240,6 +245,7 @@ fn color_record(
         ends,
     );
     allocs.update(action, l, x, y);
+    most
 }
 
 // Whether every destination was found; `next` is the record's first static, and y's comes after it, since x's counts only if it is
@@ -317,7 +323,7 @@ fn read_record(
     }
 }
 
-// One turn of the walk: the record, and the registers after it.
+// One turn of the walk: the record, and the registers after it. Answers the most colours that a choice of the record leaves needed.
 #[inline(always)]
 fn color_turn(
     kind: u32,
@@ -329,15 +335,16 @@ fn color_turn(
     colours: &mut [u32],
     ends: &mut [u32],
     set: &mut ReadSet<'_>,
-)
+) -> u32
     requires kind_is { kind ≡ word_at rec.now 0 }
     requires may_turn { MayTurn table.now i rec.now (state allocs.old colours.old ends.old) set.old renaming.old }
-    ensures { Turned table.now i rec.now (state allocs.old colours.old ends.old) set.old renaming.old (state allocs.new colours.new ends.new) set.new renaming.new }
+    ensures { Turned table.now i rec.now (state allocs.old colours.old ends.old) set.old renaming.old (state allocs.new colours.new ends.new) set.new renaming.new result }
 {
     expire_sources(allocs, renaming, kind, rec, i, colours);
-    color_record(allocs, kind, rec, renaming, i, colours, ends);
+    let most = color_record(allocs, kind, rec, renaming, i, colours, ends);
     read_record(kind, rec, renaming.statics, ends, table, set);
     renaming.pass(kind, rec);
+    most
 }
 
 // The turn of the record's kind.
@@ -350,9 +357,9 @@ fn color_by_kind(
     colours: &mut [u32],
     ends: &mut [u32],
     set: &mut ReadSet<'_>,
-)
+) -> u32
     requires { MayTurn table.now i rec.now (state allocs.old colours.old ends.old) set.old renaming.old }
-    ensures { Turned table.now i rec.now (state allocs.old colours.old ends.old) set.old renaming.old (state allocs.new colours.new ends.new) set.new renaming.new }
+    ensures { Turned table.now i rec.now (state allocs.old colours.old ends.old) set.old renaming.old (state allocs.new colours.new ends.new) set.new renaming.new result }
 {
     by_kind!(
         rec,
@@ -360,7 +367,14 @@ fn color_by_kind(
     )
 }
 
-// Each static's colour, in order, and the read set; an end whose static was found is left marked. Gives the number of statics.
+// What the walk tells beside what it leaves: the number of statics, and how full the registers got.
+#[derive(Clone, Copy)]
+pub struct Filled {
+    pub statics: usize,
+    pub fullest: u32,
+}
+
+// Each static's colour, in order, and the read set; an end whose static was found is left marked.
 pub fn color(
     list: &[u32],
     table: &[u32],
@@ -368,23 +382,25 @@ pub fn color(
     colours: &mut [u32],
     ends: &mut [u32],
     set: &mut ReadSet<'_>,
-) -> usize
+) -> Filled
     requires empty { members_in set.old ≡ [] }
     requires passing { Passing settings list.now table.now }
     requires colours_room { records list.now * 2 ≤ length colours.old }
     requires ends_room { records list.now * 2 ≤ length ends.old }
     requires table_in_bounds { records list.now * 4 + length table.now ≤ length set.old.words.now }
     requires ends_value { ends.old ≡ over (ends_of list.now) ends.old }
-    ensures statics { result ≡ length (colours_of settings list.now table.now) }
+    ensures statics { result.statics ≡ length (colours_of settings list.now table.now) }
+    ensures fullest { result.fullest ≡ fullest_of settings list.now table.now }
     ensures colours { colours.new ≡ over (colours_of settings list.now table.now) colours.old }
     ensures ends { ends.new ≡ over (marked_ends settings list.now table.now) ends.old }
     ensures set { SetHolds set.new (members_of settings list.now table.now) set.old }
 {
     let mut renaming = Renaming::new();
     let mut allocs = Allocs::new(settings.count_regs as usize);
+    let mut fullest = 0u32;
     for (i, rec) in records_of(list).iter().enumerate() {
         let now = i as u32;
-        color_by_kind(
+        let most = color_by_kind(
             rec,
             table,
             now,
@@ -394,6 +410,10 @@ pub fn color(
             ends,
             set,
         );
+        fullest = fullest.max(most);
     }
-    renaming.statics
+    Filled {
+        statics: renaming.statics,
+        fullest,
+    }
 }

@@ -2,6 +2,7 @@
 pub mod Search
 pub mod Bits
 pub mod Mapped
+pub mod Needed
 pub mod Colours
 pub mod Choices
 pub mod Expiring

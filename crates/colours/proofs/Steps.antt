@@ -2,7 +2,7 @@
 -- Bit by bit: a mask has the new bit where the colour is set, and what it had elsewhere.
 
 use Rattle.std.specs.Prelude.{Option, Some, None}
-use Prim.Native.Nat.{ℕ, ◌<◌, ◌≤◌}
+use Prim.Native.Nat.{ℕ, ◌<◌, ◌≤◌, max}
 use mathlib.Core.Bool.{Bool, true, false, cond, not}
 use mathlib.Core.List.{List}
 use mathlib.Core.Path.{◌≡◌, refl, sym, ap, subst, ◌∙◌}
@@ -15,14 +15,14 @@ use Rattle.mir.specs.Records.{max_regs}
 use Rattle.mir.proofs.Clash.{clash}
 use Rattle.passes.specs.declared.alloc.Alloc.{Alloc}
 use Rattle.passes.specs.declared.symbol.Loc.{Loc}
-use Rattle.passes.specs.Color.{alloc, colour_at, blank, is_free, is_bare, is_nothing, holds, without}
+use Rattle.passes.specs.Color.{alloc, colour_at, blank, is_free, is_bare, is_nothing, holds, assign, without}
 use Rattle.theorems.proofs.Locations.{blank_life, blank_nothing}
 use Rattle.colours.specs.declared.allocs.Allocs.{Allocs}
 use Rattle.colours.specs.declared.masks.Masks.{Masks}
 use Rattle.colours.specs.Masks.{has_bit, Masked}
 use Rattle.colours.specs.Colours.{nothing, loc_in, held_in, allocs_in, Stands}
 use Rattle.colours.proofs.Bits.{has_none}
-use Rattle.colours.proofs.Colours.{bare_word, holds_word, allocs_set, stands_at}
+use Rattle.colours.proofs.Colours.{bare_word, holds_word, allocs_set, stands_at, stands_told}
 
 -- ---- one colour is set
 
@@ -73,6 +73,15 @@ module _ {n i : ℕ} {a : Allocs} {allocs : List Alloc} (s : Stands n i a allocs
               free_within = λ j l. free j ∙ rw (past j l) (s.masked.free_within j l);
             };
       }
+
+-- a colour is given to a static: its life becomes the larger, and it holds what was wanted
+pub stands_given : {n i : ℕ} {a : Allocs} {allocs : List Alloc} → Stands n i a allocs → (c end want : ℕ) → c < n → {life : ℕ} → life ≡ max (get_or a.lives c 0) end
+    → (r : Masks) → ((j : ℕ) → has_bit r.free j ≡ cond (eqb j c) (leb life i) (has_bit a.masks.free j))
+    → ((j : ℕ) → has_bit r.held j ≡ cond (eqb j c) (not (eqb want nothing)) (has_bit a.masks.held j))
+    → {b : Allocs} → b.count ≡ a.count → b.masks ≡ r → b.lives ≡ set a.lives c life → b.locs ≡ set a.locs c want → Stands n i b (assign allocs c end (held_in want))
+stands_given {allocs = allocs} s c end want inside {life} e r free held count masks lives locs =
+    let larger : life ≡ max (colour_at allocs c).life end = e ∙ ap (λ (x : Alloc). max x.life end) (sym (stands_at s c (omega (arith, inside, s.masked.few)))) in
+    rw (← larger) (stands_told (stands_set s c life want inside r free held) count masks lives locs)
 
 -- ---- the location of one colour is set, and its life stays
 

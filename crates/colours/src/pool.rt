@@ -4,7 +4,7 @@ ghost use Rattle.std.specs.Prelude.{List, [], ◌∷◌, ◌≡◌, eqb, positio
 ghost use Rattle.mir.specs.Records.{max_regs};
 ghost use Rattle.mir.specs.Shapes.{any};
 ghost use Rattle.passes.specs.declared.alloc.Alloc.{Alloc};
-ghost use Rattle.passes.specs.Color.{plain_choice};
+ghost use Rattle.passes.specs.Color.{plain_choice, needed};
 ghost use Rattle.passes.specs.Color as color;
 ghost use Rattle.colours.specs.Colours.{nothing, loc_in, held_in, Stands};
 ghost use Rattle.colours.specs.Masks.{Masked, Expired};
@@ -56,10 +56,19 @@ impl Allocs {
         }
     }
 
-    // Gives colour `c` to a static that ends at `end`, at instruction `i`.
-    pub fn assign(&mut self, c: u32, end: u32, want: u64, i: u32)
+    // How many colours are needed past this instruction: those that are not free.
+    fn needed(&self) -> u32
+        ensures { (n i : ℕ) (allocs : List Alloc) → Stands n i self.now allocs → result ≡ needed n i allocs }
+    {
+        let free = self.masks.free;
+        (self.count as u32).saturating_sub(free.count_ones())
+    }
+
+    // Gives colour `c` to a static that ends at `end`, at instruction `i`. Answers how many colours are needed past it then.
+    pub fn assign(&mut self, c: u32, end: u32, want: u64, i: u32) -> u32
         requires { c < max_regs }
-        ensures { (n : ℕ) (allocs : List Alloc) → c < n → Stands n i self.old allocs → Stands n i self.new (color.assign allocs c end (held_in want)) }
+        ensures stands { (n : ℕ) (allocs : List Alloc) → c < n → Stands n i self.old allocs → Stands n i self.new (color.assign allocs c end (held_in want)) }
+        ensures needed { (n : ℕ) (allocs : List Alloc) → c < n → Stands n i self.old allocs → result ≡ needed n i (color.assign allocs c end (held_in want)) }
     {
         let k = c as usize;
         let life = self.lives[k].max(end);
@@ -67,6 +76,7 @@ impl Allocs {
         self.locs[k] = want;
         self.masks.free = with_bit(self.masks.free, c, life <= i);
         self.masks.held = with_bit(self.masks.held, c, want != NOTHING);
+        self.needed()
     }
 
     // A source's colour becomes free at instruction `i`, if its life ends there.

@@ -8,7 +8,7 @@ use Rattle.mir.specs.declared.config.Settings.{Settings}
 use Rattle.mir.specs.Questions.{refusal}
 use Rattle.mir.specs.Records.{fixed_mark}
 use Rattle.passes.specs.declared.alloc.Outcome.{Outcome}
-use Rattle.passes.specs.Contract.{reduced, colours_of, members_of, count_of}
+use Rattle.passes.specs.Contract.{reduced, colours_of, members_of, count_of, fullest_of}
 
 pub armed : Bool → Settings → Settings
 armed arm s = record { count_regs = s.count_regs; args = s.args; complex = s.complex; arm = arm; compress = s.compress }
@@ -18,9 +18,10 @@ pub record SameAnswers (s t : Settings) (list table : List ℕ) : Type 0 where
   pub reduced : reduced s list table ≡ reduced t list table
   pub colours : colours_of s list table ≡ colours_of t list table
   pub members : members_of s list table ≡ members_of t list table
+  pub fullest : fullest_of s list table ≡ fullest_of t list table
   pub counts : (f : Outcome) → count_of f s list table ≡ count_of f t list table
 
 pub arm_changes_nothing : (arm : Bool) (s : Settings) (list table : List ℕ) → SameAnswers (armed arm s) s list table
-unfolding armed refusal fixed_mark reduced colours_of members_of count_of
+unfolding armed refusal fixed_mark reduced colours_of members_of count_of fullest_of
 arm_changes_nothing arm s list table =
-    record { refusal = λ room. refl; reduced = refl; colours = refl; members = refl; counts = λ f. refl }
+    record { refusal = λ room. refl; reduced = refl; colours = refl; members = refl; fullest = refl; counts = λ f. refl }

@@ -5,4 +5,5 @@ pub mod MachineCases
 pub mod BranchRuns
 pub mod PoolCases
 pub mod WideCases
+pub mod FullCases
 pub mod Arm

@@ -1,11 +1,13 @@
 -- Public, document 01, section 3: colouring. A colour's life says up to where it is needed; it may hold the value of one
 -- location.
-use Rattle.std.specs.Prelude.{ℕ, zero, suc, ◌+◌, ◌*◌, ◌<◌, max, Bool, true, false, cond, ◌&&◌, ◌||◌, not, ◌⊎◌, ◌≡◌, leb, eqb}
-use Rattle.std.specs.Prelude.{List, [], ◌∷◌, ◌++◌, map, length, get_or, set, take, drop, replicate, Option, Some, None}
+use Rattle.std.specs.Prelude.{ℕ, zero, suc, ◌+◌, ◌*◌, ◌<◌, max, Bool, true, false, cond, ◌&&◌, ◌||◌, not, ◌⊎◌, ◌≡◌, leb, ltb, eqb}
+use Rattle.std.specs.Prelude.{List, [], ◌∷◌, ◌++◌, map, length, get_or, set, take, drop, replicate, count_by, Option, Some, None}
 use Rattle.mir.specs.declared.config.Settings.{Settings}
 use Rattle.mir.specs.declared.shape.Action.{Action}
 use Rattle.mir.specs.declared.shape.Action.TheVariants as action
-use Rattle.mir.specs.Records.{record_at, word_at, is_gen, max_regs}
+use Rattle.std.specs.List.{list_all}
+use Rattle.mir.specs.Folds.{all_below}
+use Rattle.mir.specs.Records.{records, record_at, word_at, is_gen, max_regs}
 use Rattle.mir.specs.Renaming.{regs_to}
 use Rattle.mir.specs.Shapes.{shape_for, dests, sources}
 use Rattle.passes.specs.declared.alloc.Alloc.{Alloc}
@@ -295,3 +297,28 @@ color_to u (suc i) = color_step u i (color_to u i)
 
 abbrev pub setup : Settings → List ℕ → List ℕ → Setup
 setup s list table = record { count = s.count_regs; ends = ends_of list; table = table; list = list }
+
+-- ---- how full the registers got (document 02, request 7)
+
+-- how many of the n colours are needed past instruction i, that is have a life above it
+abbrev pub needed : ℕ → ℕ → List Alloc → ℕ
+needed n i allocs = count_by (λ (a : Alloc). ltb i a.life) (take n allocs)
+
+-- the most that a choice of the destinations leaves needed: each choice counts once it is made, found or not
+unfoldable pub fullest_for : ℕ → ℕ → List ℕ → List (ℕ × Option Loc) → Coloring → ℕ
+fullest_for n i ends [] st = 0
+fullest_for n i ends (d ∷ ds) st =
+    let after = after_dest n i ends d.0 d.1 st in
+    max (cond (is_gen d.0) (needed n i after.allocs) 0) (fullest_for n i ends ds after)
+
+-- and any choice at record i, and before it
+abbrev pub fullest_at : Setup → ℕ → ℕ
+fullest_at u i = fullest_for u.count i u.ends (dests_at u i (color_to u i)) (color_to u i)
+
+unfoldable pub fullest_to : Setup → ℕ → ℕ
+fullest_to u zero = 0
+fullest_to u (suc i) = max (fullest_to u i) (fullest_at u i)
+
+-- no record of a list has a Gen source
+unfoldable pub no_gen_source : List ℕ → Bool
+no_gen_source list = all_below (records list) (λ i. list_all (λ w. not (is_gen w)) (sources (record_at list i)))

@@ -8,7 +8,7 @@ use Rattle.mir.specs.Shapes.{shape_for, nop, mov, save, save_complex}
 use Rattle.passes.specs.declared.alloc.Outcome.{Outcome}
 use Rattle.passes.specs.declared.alloc.Outcome.TheVariants.{Kept, Nop, Load, Move, Save}
 use Rattle.passes.specs.declared.symbol.Loc.{Loc}
-use Rattle.passes.specs.Color.{Setup, setup, color_to, colored, found_at, loc_of, partner, is_member}
+use Rattle.passes.specs.Color.{Setup, setup, color_to, colored, found_at, loc_of, partner, is_member, fullest_to}
 
 -- a load of either kind is dropped if it was found
 abbrev pub is_load : Action → Bool
@@ -90,7 +90,11 @@ count_to f mark u (suc i) = count_to f mark u i + cond (eqb (outcome_number (out
 unfoldable pub count_of : Outcome → Settings → List ℕ → List ℕ → ℕ
 count_of f s list table = count_to f (fixed_mark s) (setup s list table) (records list)
 
--- what the result counts: records, statics and set members, and dropped nops, loads, moves and saves
+-- how full the registers got: the most colours that any choice left needed (document 02, request 7)
+unfoldable pub fullest_of : Settings → List ℕ → List ℕ → ℕ
+fullest_of s list table = fullest_to (setup s list table) (records list)
+
+-- what the result counts: records, statics and set members, dropped nops, loads, moves and saves, and how full the registers got
 unfoldable pub counts_of : Settings → List ℕ → List ℕ → List ℕ
 counts_of s list table =
     count_of Kept s list table
@@ -100,4 +104,5 @@ counts_of s list table =
     ∷ count_of Load s list table
     ∷ count_of Move s list table
     ∷ count_of Save s list table
+    ∷ fullest_of s list table
     ∷ []

@@ -31,10 +31,10 @@ pub record ExportCases : Type 0 where
   pub registers_first : survey_verdict 65 (21 ∷ []) [] (zeros 3) ≡ Refused 1 0
   pub ragged_first : survey_verdict 0 (21 ∷ []) [] (zeros 3) ≡ Refused 3 0
   pub no_kind : survey_verdict 0 (21 ∷ zeros 7) [] (zeros 4) ≡ Refused 5 0
-  pub records : records_word (7 ∷ 6 ∷ 5 ∷ 4 ∷ 3 ∷ 2 ∷ 1 ∷ []) ≡ 7
-  -- question 4 asks for seven counts
-  pub seven_counts : verdict_with (settings_of 0 0 0 0 0) [] [] (lent [] [] [] []) (zeros 7) ≡ Passed
-  pub six_counts : verdict_with (settings_of 0 0 0 0 0) [] [] (lent [] [] [] []) (zeros 6) ≡ Refused 4 0
+  pub records : records_word (8 ∷ 7 ∷ 6 ∷ 5 ∷ 4 ∷ 3 ∷ 2 ∷ 1 ∷ []) ≡ 8
+  -- question 4 asks for eight counts
+  pub eight_counts : verdict_with (settings_of 0 0 0 0 0) [] [] (lent [] [] [] []) (zeros 8) ≡ Passed
+  pub seven_counts : verdict_with (settings_of 0 0 0 0 0) [] [] (lent [] [] [] []) (zeros 7) ≡ Refused 4 0
   -- the file of no pairs and no records
   pub empty_file : bytes_verdict (zeros 28) (zeros 4) ≡ Passed
   pub short_output : bytes_verdict (zeros 28) (zeros 3) ≡ Refused 4 0
@@ -59,8 +59,8 @@ export_cases =
       ragged_first = refl;
       no_kind = refl;
       records = refl;
+      eight_counts = refl;
       seven_counts = refl;
-      six_counts = refl;
       empty_file = refl;
       short_output = refl;
       short_file = refl;

@@ -17,7 +17,6 @@ use Rattle.mir.specs.declared.config.Settings.{Settings}
 use Rattle.mir.specs.Answers.{Verdict}
 use Rattle.mir.specs.Answers.{Passed, Refused}
 use Rattle.mir.specs.Answers.{unless}
-use Rattle.mir.specs.Questions.{refusal}
 use Rattle.mir.proofs.Clash.{clash}
 use Rattle.mir.specs.Inner.{start_refusal}
 use Rattle.mir.proofs.Passing.{room_passes, refusal_without}
@@ -26,12 +25,12 @@ use Rattle.rudzaviks.specs.Exports.{RudzaviksOptimize, verdict_with, report_word
 
 module _ {s : Settings} {list table : List ℕ} {held : Lent} {counts : List ℕ} where
   -- an answer as `optimize_words` gave it
-  pub entry_answered : {now : Lent} {result given : Result Counts Refusal} {now_counts : List ℕ} → 7 ≤ length counts
+  pub entry_answered : {now : Lent} {result given : Result Counts Refusal} {now_counts : List ℕ} → 8 ≤ length counts
       → OptimizedWords s list table held now result → result ≡ given → now_counts ≡ written (λ values. values) (report given) counts
       → RudzaviksOptimize s list table held counts now now_counts (report_word records_word (report given))
   unfolding verdict_of_words verdict_with
   entry_answered {result = result} {given = given} h p g c =
-      let e : verdict_of_words s list table held ≡ verdict_with s list table held counts = rw (le-leb 7 (length counts) h, and-true (room_in_words list table held)) in
+      let e : verdict_of_words s list table held ≡ verdict_with s list table held counts = rw (le-leb 8 (length counts) h, and-true (room_in_words list table held)) in
       record {
         word = cc;
         out = cc;
@@ -45,12 +44,12 @@ module _ {s : Settings} {list table : List ℕ} {held : Lent} {counts : List ℕ
       }
 
   -- no room for the counts
-  pub entry_short : (w : Verdict) → length counts < 7 → w ≡ start_refusal false s (length list) (length table)
+  pub entry_short : (w : Verdict) → length counts < 8 → w ≡ start_refusal false s (length list) (length table)
       → RudzaviksOptimize s list table held counts held counts (report_word records_word (unless w []))
   unfolding verdict_with
   entry_short Passed h e = clash (cc (room_passes false s list table (refusal_without s list table ∙ sym e)))
   entry_short (Refused number index) h e =
-      let f : verdict_with s list table held counts ≡ Refused number index = rw (lt-leb 7 (length counts) h, and-false (room_in_words list table held)) (refusal_without s list table ∙ sym e) in
+      let f : verdict_with s list table held counts ≡ Refused number index = rw (lt-leb 8 (length counts) h, and-false (room_in_words list table held)) (refusal_without s list table ∙ sym e) in
       record {
         word = rw f;
         out = rw f;

@@ -50,9 +50,9 @@ pub record RudzaviksSurvey (count_regs : ℕ) (compress : Bool) (label : ℕ) (l
 abbrev pub records_word : List ℕ → ℕ
 records_word values = get_or values 0 0
 
--- the questions; question 4 also asks for a slice of at least seven counts
+-- the questions; question 4 also asks for a slice of at least eight counts
 unfoldable pub verdict_with : Settings → List ℕ → List ℕ → Lent → List ℕ → Verdict
-verdict_with s list table held counts = refusal (room_in_words list table held && leb 7 (length counts)) s list table
+verdict_with s list table held counts = refusal (room_in_words list table held && leb 8 (length counts)) s list table
 
 -- the promise, with what the lent slices held and hold
 pub record RudzaviksOptimize (s : Settings) (list table : List ℕ) (held : Lent) (held_counts : List ℕ) (now : Lent)

@@ -76,14 +76,17 @@ pub fn rudzaviks_survey(
     }
 }
 
-// The seven counts at the start of a slice.
+// How many counts there are.
+const COUNTS: usize = 8;
+
+// The counts at the start of a slice.
 fn write_counts(c: Counts, counts: &mut [u32])
-    requires { 7 ≤ length counts.old }
+    requires { 8 ≤ length counts.old }
     ensures { counts.new ≡ over (values_in c) counts.old }
 {
     let t = c.tally;
-    counts[..7].copy_from_slice(&[
-        t.records, c.statics, c.members, t.nops, t.loads, t.moves, t.saves,
+    counts[..COUNTS].copy_from_slice(&[
+        t.records, c.statics, c.members, t.nops, t.loads, t.moves, t.saves, c.fullest,
     ]);
 }
 
@@ -97,7 +100,7 @@ fn verdict_word(answer: Result<(), Refusal>) -> u64
     }
 }
 
-// `optimize`: the number of records that the reduced list has, or a refusal; the seven counts go into `counts`.
+// `optimize`: the number of records that the reduced list has, or a refusal; the eight counts go into `counts`.
 pub fn rudzaviks_optimize(
     list: &[u32],
     table: &[u32],
@@ -115,7 +118,7 @@ pub fn rudzaviks_optimize(
     ensures { RudzaviksOptimize (settings_of count_regs args complex arm compress) list.now table.now (lent out.old colours.old ends.old set.old) counts.old (lent out.new colours.new ends.new set.new) counts.new result }
 {
     let settings = settings_of(count_regs, args, complex, arm, compress);
-    if counts.len() < 7 {
+    if counts.len() < COUNTS {
         return verdict_word(check_start(settings, list.len(), table.len(), false));
     }
     match optimize_words(list, table, settings, out, colours, ends, set) {

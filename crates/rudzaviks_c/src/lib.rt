@@ -21,7 +21,7 @@ pub extern "C" fn rudzaviks_survey(
     rudzaviks::rudzaviks_survey(list, table, count_regs, compress, label, parts)
 }
 
-// `optimize`: the number of records that the reduced list has, or a refusal; the seven counts go into `counts`.
+// `optimize`: the number of records that the reduced list has, or a refusal; the eight counts go into `counts`.
 #[unsafe(no_mangle)]
 pub extern "C" fn rudzaviks_optimize(
     list: &[u32],

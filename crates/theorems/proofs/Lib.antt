@@ -15,6 +15,8 @@ pub mod Pool
 pub mod NeverEmpty
 -- a colour becomes free at a source
 pub mod Due
+-- how full the registers get
+pub mod Fullest
 pub mod SameColours
 -- demand 3
 pub mod Ends

@@ -147,11 +147,11 @@ pub produced_named : (w : ℕ) (ws : List ℕ) (m : ℕ) (regs : List (Option �
 unfolding produced
 produced_named w ws m regs g = rw (g, native.Mathlib.Nat.add-zero m)
 
-gens_gen : (w : ℕ) (ws : List ℕ) → is_gen w ≡ true → gens (w ∷ ws) ≡ suc (gens ws)
+pub gens_gen : (w : ℕ) (ws : List ℕ) → is_gen w ≡ true → gens (w ∷ ws) ≡ suc (gens ws)
 unfolding gens
 gens_gen w ws g = rw (g, native.Mathlib.Numerals.one-add (gens ws))
 
-gens_named : (w : ℕ) (ws : List ℕ) → is_gen w ≡ false → gens (w ∷ ws) ≡ gens ws
+pub gens_named : (w : ℕ) (ws : List ℕ) → is_gen w ≡ false → gens (w ∷ ws) ≡ gens ws
 unfolding gens
 gens_named w ws g = rw (g, native.Mathlib.Nat.zero-add (gens ws))
 

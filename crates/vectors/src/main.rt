@@ -30,7 +30,7 @@ const STATICS: usize = 1028;
 
 const SET: usize = 3076;
 
-const COUNTS: usize = 11;
+const COUNTS: usize = 12;
 
 const PARTS: usize = 7;
 
@@ -279,7 +279,7 @@ impl Case<'_> {
         };
         let got = self.optimize(&mut lent);
         let same = lent.are_stored(input)? && got == stored.answer();
-        Ok(same && (lent.counts.len() < 7 || self.has_entries(&lent, got)))
+        Ok(same && (lent.counts.len() < 8 || self.has_entries(&lent, got)))
     }
 
     // Whether the operation's answer is the stored one, which comes next.

@@ -19,7 +19,7 @@ use Rattle.passes.specs.Machine.{Passing}
 use Rattle.theorems.proofs.Members.{few_members}
 use Rattle.theorems.proofs.NeverEmpty.{ready_to}
 use Rattle.walks.specs.declared.contract.Tally.{Tally}
-use Rattle.passes.specs.Contract.{colours_of, members_of, counts_of}
+use Rattle.passes.specs.Contract.{colours_of, members_of, counts_of, fullest_of}
 use Rattle.mir.specs.Answers.{Passed, over}
 use Rattle.mir.specs.Inner.{start_refusal, list_refusal}
 use Rattle.coloring.specs.Coloring.{marked_ends, founds_to}
@@ -84,7 +84,7 @@ module _ (s : Settings) (list table : List ℕ) (h : Passing s list table) where
   ends_last E0 E1 p q r = again (ends_of list) (ends_of list) E0 (omega arith) p (again (ends_of list) (marked_ends s list table) E1 marked_ends_lem q r)
 
   -- the answer's counts
-  pub counts_are : (t : Tally) (n m : ℕ) {E E' O O' : List ℕ} → Contracted s list table t E E' O O' → n ≡ length (colours_of s list table) → m ≡ length (members_of s list table)
-      → t.records ∷ n ∷ m ∷ t.nops ∷ t.loads ∷ t.moves ∷ t.saves ∷ [] ≡ counts_of s list table
+  pub counts_are : (t : Tally) (n m f : ℕ) {E E' O O' : List ℕ} → Contracted s list table t E E' O O' → n ≡ length (colours_of s list table) → m ≡ length (members_of s list table)
+      → f ≡ fullest_of s list table → t.records ∷ n ∷ m ∷ t.nops ∷ t.loads ∷ t.moves ∷ t.saves ∷ f ∷ [] ≡ counts_of s list table
   unfolding counts_of
-  counts_are t n m k p q = rw (p, q, k.records, k.nops, k.loads, k.moves, k.saves) refl
+  counts_are t n m f k p q r = rw (p, q, r, k.records, k.nops, k.loads, k.moves, k.saves) refl

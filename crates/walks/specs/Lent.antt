@@ -17,11 +17,11 @@ pub record Lent : Type 0 where
 abbrev pub lent : List ℕ → List ℕ → List ℕ → List ℕ → Lent
 lent out colours ends set = record { out = out; colours = colours; ends = ends; set = set }
 
--- the seven counts, in section 4's order
+-- the counts, in section 4's order, and request 7's after them
 abbrev pub values_in : Counts → List ℕ
-values_in c = c.tally.records ∷ c.statics ∷ c.members ∷ c.tally.nops ∷ c.tally.loads ∷ c.tally.moves ∷ c.tally.saves ∷ []
+values_in c = c.tally.records ∷ c.statics ∷ c.members ∷ c.tally.nops ∷ c.tally.loads ∷ c.tally.moves ∷ c.tally.saves ∷ c.fullest ∷ []
 
--- the answer in document 01's terms: the seven counts, or number and index
+-- the answer in document 01's terms: the eight counts, or number and index
 abbrev pub report : Result Counts Refusal → Report
 report (Ok c) = answered (values_in c)
 report (Err r) = refused (number_of r.question) r.index

@@ -21,12 +21,14 @@ use mir::config::Settings;
 use mir::refusal::Refusal;
 use sets::ReadSet;
 
-// What the reduced list and the lent slices have, and what was dropped.
+// What the reduced list and the lent slices have, what was dropped, and how full the registers got.
 #[derive(Clone, Copy)]
 pub struct Counts {
     pub statics: u32,
     pub members: u32,
     pub tally: Tally,
+    // The most registers that were needed at once.
+    pub fullest: u32,
 }
 
 // The two walks over a list that passes, with its ends and a set of no members; each renames the registers as it goes.
@@ -46,12 +48,13 @@ fn walk(
     ensures same_reference { read.new.words.ghost_name ≡ read.old.words.ghost_name }
     ensures reduces { Reduces settings list.now table.now (lent out.old colours.old ends.old read.old.words.now) (lent out.new colours.new ends.new read.new.words.now) result }
 {
-    let statics = color(list, table, settings, colours, ends, read);
+    let filled = color(list, table, settings, colours, ends, read);
     let tally = contract::contract(list, settings, colours, ends, read, out);
     Counts {
-        statics: statics as u32,
+        statics: filled.statics as u32,
         members: read.len() as u32,
         tally,
+        fullest: filled.fullest,
     }
 }
 

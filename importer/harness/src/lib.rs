@@ -6,6 +6,7 @@ pub mod branch_cases;
 pub mod cases;
 pub mod damage;
 pub mod file;
+pub mod fullest;
 pub mod kinds;
 pub mod lent;
 pub mod limits;

@@ -2,6 +2,7 @@
 
 use std::collections::HashSet;
 
+use crate::fullest::fullest;
 use crate::lent::Lent;
 use crate::lists::List;
 use crate::record::WORDS;
@@ -20,22 +21,26 @@ pub struct Reduced {
     pub members: Vec<(u32, u32)>,
     /// Nops, loads, moves and saves.
     pub dropped: [u32; 4],
+    /// How full the registers got.
+    pub fullest: u32,
 }
 
 impl Reduced {
     pub fn new(list: &List, words: Vec<u32>, statics: Vec<(u32, u32)>) -> Reduced {
         let members = members(&words, &list.table);
         let dropped = DROPS.map(|kinds| times(&list.words, kinds) - times(&words, kinds));
-        Reduced { words, statics, members, dropped }
+        let colours: Vec<u32> = statics.iter().map(|(colour, _)| *colour).collect();
+        let fullest = fullest(list, &colours);
+        Reduced { words, statics, members, dropped, fullest }
     }
 
-    /// Records, statics, members, and what was dropped.
-    pub fn counts(&self) -> [u32; 7] {
+    /// Records, statics, members, what was dropped, and how full the registers got.
+    pub fn counts(&self) -> [u32; 8] {
         let [nops, loads, moves, saves] = self.dropped;
         let records = self.words.len() / WORDS;
         let [records, statics, members] =
             [records, self.statics.len(), self.members.len()].map(|count| count as u32);
-        [records, statics, members, nops, loads, moves, saves]
+        [records, statics, members, nops, loads, moves, saves, self.fullest]
     }
 
     /// The words that the lent slices start with.

@@ -15,8 +15,8 @@
 //! Of the lent slices first come their lengths in words. Then comes for each the number of words
 //! that it starts with in the end, and these words; all others are FILL, as they were. With
 //! operations 1 and 2 there is room for the parts. Each answer is the questions' or the original's,
-//! of `optimize` the amended copy's, and a mask of more than 32 registers that of `used`; none is
-//! the verified code's.
+//! of `optimize` the amended copy's, a mask of more than 32 registers that of `used`, and the last
+//! of the counts that of `fullest`; none is the verified code's.
 
 use crate::damage::Fault::{CountRegs, Kind, OddTable, PartialRecord};
 use crate::damage::{damaged, damaged_branches};
@@ -36,7 +36,7 @@ pub const MOST_RECORDS: usize = 512;
 pub const MOST_PAIRS: usize = 512;
 
 /// The lengths of the replay's slices, in words: what these ask for, and four words more.
-pub const MOST_LENT: [usize; 5] = [4100, 1028, 1028, 3076, 11];
+pub const MOST_LENT: [usize; 5] = [4100, 1028, 1028, 3076, 12];
 
 /// The same for the slice of `survey`: what it asks for, and three words more.
 pub const MOST_PARTS: usize = PARTS + 3;

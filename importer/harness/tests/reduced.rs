@@ -2,41 +2,13 @@
 
 use std::collections::BTreeSet;
 
+use harness::fullest::ends;
 use harness::how_many;
 use harness::kinds::{load, load_args, load_complex, load_const, save, MEM, PARAM, STACK};
-use harness::limits::MOST_REGS;
 use harness::lists::{any_list, two_part_list, List};
 use harness::random::Random;
-use harness::record::WORDS;
-use harness::roles::{words_with, Role};
 use harness::run::{left_by, reduced, Allocator, Amended, Ready, Unchanged};
 use harness::settings::Settings;
-
-/// The ends by their definition: each written Gen register makes a static, which ends at its last
-/// read before the register is written again or forgotten, or else at its writing.
-fn ends(list: &List) -> Vec<u32> {
-    let mut ends = Vec::new();
-    let mut current = [None; MOST_REGS as usize];
-    for (at, record) in list.words.chunks_exact(WORDS).enumerate() {
-        let gens = |wanted: Role| {
-            let words = words_with(record[0], |role| role == wanted).into_iter();
-            let registers = words.map(|word| record[word]).filter(|register| *register < MOST_REGS);
-            registers.map(|register| register as usize)
-        };
-        for register in gens(Role::Source) {
-            let number: usize = current[register].expect("a static");
-            ends[number] = at as u32;
-        }
-        for register in gens(Role::Destination) {
-            current[register] = Some(ends.len());
-            ends.push(at as u32);
-        }
-        if record[0] == 12 || record[0] == 15 {
-            current = [None; MOST_REGS as usize];
-        }
-    }
-    ends
-}
 
 #[test]
 fn statics_and_counts() {
@@ -48,8 +20,9 @@ fn statics_and_counts() {
         assert!(reduced.statics.iter().map(|(_, end)| *end).eq(expected), "{list:?}");
         let colours = list.settings.count_regs;
         assert!(reduced.statics.iter().all(|(colour, _)| *colour < colours), "{list:?}");
-        let [left, _, _, dropped @ ..] = reduced.counts();
+        let [left, _, _, dropped @ .., fullest] = reduced.counts();
         assert_eq!((left + dropped.iter().sum::<u32>()) as usize, list.records(), "{list:?}");
+        assert!(fullest <= colours, "{list:?}");
     }
 }
 
@@ -114,5 +87,5 @@ fn members_by_hand() {
     let expected = [(PARAM, 3), (STACK, 9), (MEM, 7), (PARAM, 0), (PARAM, 2)];
     assert_eq!(reduced.members, expected);
     assert_eq!(reduced.statics, [(0, 1), (0, 2), (1, 3), (2, 5), (1, 5)]);
-    assert_eq!(reduced.counts(), [5, 5, 5, 0, 1, 0, 0]);
+    assert_eq!(reduced.counts(), [5, 5, 5, 0, 1, 0, 0, 1]);
 }

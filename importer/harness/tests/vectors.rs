@@ -1,5 +1,7 @@
 //! The file of stored answers.
 
+use std::collections::BTreeSet;
+
 use harness::answers::{self, ABSENT};
 use harness::file::words;
 use harness::lists::USED_REGS;
@@ -97,6 +99,22 @@ fn parts_of_every_length_are_there() {
     assert!(short.iter().all(|times| times[4] > 0), "{met:?}");
     assert!(enough.iter().all(|times| times[0] > 0), "{met:?}");
     assert!(compressed >= 4, "{compressed}");
+}
+
+/// Counts with just the room that is asked, a word less, and more; and lists that fill no register,
+/// some, and all of many.
+#[test]
+fn counts_of_every_length_are_there() {
+    let (mut lengths, mut fullest) = (BTreeSet::new(), BTreeSet::new());
+    for case in cases() {
+        let Operation::Optimize(of_case) = case.operation else { continue };
+        let answer = answers::optimize(&case.list, of_case);
+        lengths.insert((of_case[4], answer.lent[4].len()));
+        fullest.extend(answer.lent[4].get(7).copied());
+        assert!(of_case[4] > 7 || answer.word == 4 << 32);
+    }
+    assert_eq!(Vec::from_iter(lengths), [(7, 0), (8, 0), (8, 8), (9, 0), (11, 0), (11, 8)]);
+    assert_eq!(Vec::from_iter(fullest), [0, 1, 2, 3, 4, 33, 48, 63, 64]);
 }
 
 /// Reads the file by its format, word by word.

@@ -27,7 +27,7 @@ extern "C" {
 }
 
 /// How many numbers `Counts` has.
-const COUNTS: usize = 7;
+const COUNTS: usize = 8;
 
 /// What a list is reduced for.
 #[derive(Clone, Copy, Debug, Default, PartialEq, Eq)]
@@ -44,8 +44,8 @@ pub struct Settings {
     pub compress: bool,
 }
 
-/// How many records, statics and members of the read set there are, and how many records of each
-/// sort were dropped.
+/// How many records, statics and members of the read set there are, how many records of each sort
+/// were dropped, and how many registers were in use at once.
 #[derive(Clone, Copy, Debug, PartialEq, Eq)]
 pub struct Counts {
     /// Records that are left.
@@ -62,6 +62,10 @@ pub struct Counts {
     pub moves: u32,
     /// Dropped Save and SaveComplex.
     pub saves: u32,
+    /// How full the registers got: each time that one is chosen for a value, those are counted that
+    /// are still in use past the record, and this is the most. At most `count_regs`; 0 exactly if no
+    /// record reads a general register.
+    pub fullest: u32,
 }
 
 /// What becomes of a list.
@@ -86,7 +90,7 @@ pub struct Lent<'a> {
     /// Starts with the read set, a space and an index for each member, in joining order. At least
     /// four words per record and the table's length.
     pub set: &'a mut [u32],
-    /// Starts with the counts, in their order. At least seven words.
+    /// Starts with the counts, in their order. At least eight words.
     pub counts: &'a mut [u32],
 }
 
@@ -129,9 +133,9 @@ impl Answer {
         if let Some(refusal) = refusal(word) {
             return Answer::Refused(refusal);
         }
-        let [records, statics, members, nops, loads, moves, saves] =
+        let [records, statics, members, nops, loads, moves, saves, fullest] =
             *counts.first_chunk::<COUNTS>().expect("the entry asks for room for the counts");
-        Answer::Reduced(Counts { records, statics, members, nops, loads, moves, saves })
+        Answer::Reduced(Counts { records, statics, members, nops, loads, moves, saves, fullest })
     }
 }
 
@@ -211,10 +215,11 @@ mod tests {
             loads: 4,
             moves: 5,
             saves: 6,
+            fullest: 7,
         };
-        let words = [65_536, 1, 2, 3, 4, 5, 6, 7];
+        let words = [65_536, 1, 2, 3, 4, 5, 6, 7, 8];
         assert_eq!(Answer::from_words(65_536, &words), Answer::Reduced(counts));
-        assert_eq!(Answer::from_words(65_536, &words[..7]), Answer::Reduced(counts));
+        assert_eq!(Answer::from_words(65_536, &words[..8]), Answer::Reduced(counts));
         let refusal = Refusal { number: 9, index: 65_535 };
         assert_eq!(Answer::from_words((9 << 32) | 65_535, &words), Answer::Refused(refusal));
         let refusal = Refusal { number: 4, index: 0 };
@@ -235,6 +240,6 @@ mod tests {
         let mut buffers = Buffers::new(24, 4);
         let Lent { out, colours, ends, set, counts } = buffers.lend();
         let room = [out.len(), colours.len(), ends.len(), set.len(), counts.len()];
-        assert_eq!(room, [24, 6, 6, 16, 7]);
+        assert_eq!(room, [24, 6, 6, 16, 8]);
     }
 }

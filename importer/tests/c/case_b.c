@@ -76,18 +76,23 @@ static void check_survey(void)
 
 static void check_optimize(void)
 {
-    static const uint32_t expected[7] = {LEFT, 2, 0, 0, 1, 0, 1};
-    uint32_t out[WORDS], colours[2 * RECORDS], ends[2 * RECORDS], set[4 * RECORDS], counts[7];
+    static const uint32_t expected[8] = {LEFT, 2, 0, 0, 1, 0, 1, 1};
+    uint32_t out[WORDS], colours[2 * RECORDS], ends[2 * RECORDS], set[4 * RECORDS], counts[9] = {0, 0, 0, 0, 0, 0, 0, 0, 165};
     uint64_t word = rudzaviks_optimize(
         list, WORDS, table, 0, 1, 0, 0, 0, 0,
-        out, WORDS, colours, 2 * RECORDS, ends, 2 * RECORDS, set, 4 * RECORDS, counts, 7);
+        out, WORDS, colours, 2 * RECORDS, ends, 2 * RECORDS, set, 4 * RECORDS, counts, 9);
     check(word == LEFT, "optimize: answer");
     check(memcmp(out, list, 8 * LEFT * sizeof out[0]) == 0, "optimize: the first two records");
     check(colours[0] == 0 && colours[1] == 0 && ends[0] == 1 && ends[1] == 3, "optimize: statics");
     check(memcmp(counts, expected, sizeof expected) == 0, "optimize: counts");
+    check(counts[8] == 165, "optimize: the word past the counts as it was");
     word = rudzaviks_optimize(
         list, WORDS, table, 0, 1, 0, 0, 0, 0,
-        out, WORDS, colours, 2 * RECORDS, ends, 2 * RECORDS, set, 4 * RECORDS - 1, counts, 7);
+        out, WORDS, colours, 2 * RECORDS, ends, 2 * RECORDS, set, 4 * RECORDS, counts, 7);
+    check(word == refused(4, 0), "optimize: counts too short");
+    word = rudzaviks_optimize(
+        list, WORDS, table, 0, 1, 0, 0, 0, 0,
+        out, WORDS, colours, 2 * RECORDS, ends, 2 * RECORDS, set, 4 * RECORDS - 1, counts, 8);
     check(word == refused(4, 0), "optimize: set too short");
 }
 

@@ -66,7 +66,7 @@ fn unread(reason: Reason) -> Vec<Loc> {
 /// What is left goes by the outcomes, and each reason fits its instruction.
 fn outcomes_fit(list: &List) {
     let (code, settings) = (instructions(list), settings(list));
-    let Reduced { list: left, counts, outcomes } = reduce(&code, &settings).expect("it passes");
+    let Reduced { list: left, counts, outcomes, .. } = reduce(&code, &settings).expect("it passes");
     let Counts { nops, loads, moves, saves, .. } = counts;
     assert_eq!(dropped(&outcomes), [nops, loads, moves, saves], "{list:?}");
     let read = run::reduced(list).members;

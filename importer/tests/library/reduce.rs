@@ -4,7 +4,7 @@ use crate::support::{
     each_list, each_live_list, each_two_part_list, instructions, records, settings,
 };
 use harness::how_many;
-use harness::lists::{list, List, Profile};
+use harness::lists::{any_branch_list, list, List, Profile};
 use harness::questions::refusal;
 use harness::random::Random;
 use harness::run;
@@ -38,12 +38,15 @@ fn reduced_as_expected(list: &List) -> By {
     let both = run::both(list);
     let (by, expected) = (both.by(), both.expected());
     let counts = reduced.counts;
-    let [records, statics, members, nops, loads, moves, saves] = expected.counts();
+    let [records, statics, members, nops, loads, moves, saves, fullest] = expected.counts();
     assert_eq!([counts.records, counts.statics, counts.members], [records, statics, members]);
     assert_eq!(
         [counts.nops, counts.loads, counts.moves, counts.saves],
         [nops, loads, moves, saves]
     );
+    // The count is the library's, the numbers past each instruction are the crate's own.
+    let most = reduced.needed().into_iter().max().unwrap_or(0);
+    assert_eq!([counts.fullest, most], [fullest, fullest]);
     let left = Records { list: expected.words, table: list.table.clone() };
     assert_eq!(Ok(reduced.list), left.instructions());
     by
@@ -57,6 +60,8 @@ fn lists_are_reduced_as_by_the_copies() {
     each_list(91, lists, 700, &mut check);
     each_two_part_list(94, lists, 40, &mut check);
     each_live_list(99, lists / 4, &mut check);
+    let mut random = Random::new(98);
+    (0..lists).for_each(|_| check(&any_branch_list(&mut random, 40)));
     tally.print("the library's reduce");
 }
 

@@ -3,10 +3,11 @@
 use Rattle.mir.proofs.Renaming.{walked_first}
 use Prim.Native.Nat.{◌/◌}
 use mathlib.Core.Path.{◌≡◌, refl, sym, ◌∙◌}
+use native.Mathlib.Numerals.{add-one}
 use native.Mathlib.Omega.{arith}
 use lib.ListN.{length}
-use Rattle.passes.specs.Color.{color_to}
-use Rattle.passes.specs.Contract.{colours_of, members_of}
+use Rattle.passes.specs.Color.{color_to, fullest_to}
+use Rattle.passes.specs.Contract.{colours_of, members_of, fullest_of}
 use Rattle.coloring.specs.Coloring.{founds_to, marked}
 use Rattle.coloring.proofs.Invariant.{words_few}
 use Rattle.sets.proofs.Pairs.{holds_own}
@@ -20,10 +21,11 @@ new-allocs-requires c =
     (passing_list c.args.settings c.args.list.now c.args.table.now c.requires.passing).few
 
 pub loop-i-init : goal.loop-i-init
-unfolding color_to founds_to marked
+unfolding color_to founds_to marked fullest_to
 loop-i-init c =
     let own = holds_own c.args.set.now in (
       search rules,
+      refl,
       record {
         called =
             record {
@@ -43,10 +45,10 @@ loop-i-init c =
 pub overflow_cast-now : goal.overflow_cast-now
 overflow_cast-now c =
     let here = c.records_of-rec-items.ensures.each c.loop-i.i c.loop-i-test.true in
-    omega (arith, here.0, words_few c.loop-i.invariant.1 here.0)
+    omega (arith, here.0, words_few c.loop-i.invariant.2 here.0)
 
-pub color_by_kind-requires : goal.color_by_kind-requires
-color_by_kind-requires c =
+pub color_by_kind-most-requires : goal.color_by_kind-most-requires
+color_by_kind-most-requires c =
     let here = c.records_of-rec-items.ensures.each c.loop-i.i c.loop-i-test.true in
     record {
       settings = c.args.settings;
@@ -54,26 +56,29 @@ color_by_kind-requires c =
       colours = c.args.colours.now;
       ends = c.args.ends.now;
       before = c.args.set.now;
-      coloring = c.loop-i.invariant.1;
+      coloring = c.loop-i.invariant.2;
       within = here.0;
       here = here.1;
     }
 
 pub loop-i-preserved : goal.loop-i-preserved
+unfolding fullest_to
 loop-i-preserved c =
     let here = c.records_of-rec-items.ensures.each c.loop-i.i c.loop-i-test.true in
-    (omega (arith, here.0), c.color_by_kind.ensures c.args.settings c.args.list.now c.args.colours.now c.args.ends.now c.args.set.now c.loop-i.invariant.1 here.0 here.1)
+    let turned = c.color_by_kind-most.ensures c.args.settings c.args.list.now c.args.colours.now c.args.ends.now c.args.set.now c.loop-i.invariant.2 here.0 here.1 in
+    (omega (arith, here.0), rw (add-one c.loop-i.i, ← c.loop-i.invariant.1, ← turned.1) c.max-fullest.ensures, turned.0)
 
 -- ---- after the last turn
 
 pub returns : goal.returns
-unfolding colours_of members_of
+unfolding colours_of members_of fullest_of
 returns c =
     let list = c.args.list.now in
     let e : c.loop-i.i ≡ length list / 8 = omega (arith, c.loop-i.invariant.0, c.records_of-rec-items.ensures.len, c.loop-i-test.false) in
-    let v = rw e at c.loop-i.invariant.1 in
+    let v = rw e at c.loop-i.invariant.2 in
     let p = passing_list c.args.settings list c.args.table.now c.requires.passing in
     record {
+      fullest = rw e at c.loop-i.invariant.1;
       statics = v.walked.statics_are ∙ sym (ready_to c.args.settings list c.args.table.now p (length list / 8) (omega arith)).next;
       colours = v.holds.colours;
       ends = v.holds.ends;

@@ -11,7 +11,7 @@ use Rattle.coloring.proofs.color_dest.Goals as goal
 pub returns-then-w-ge256 : goal.returns-then-w-ge256
 returns-then-w-ge256 c =
     rw (step_named c.args.allocs.now.count c.args.i c.args.next c.args.w (held_in c.args.want) (slices_in c.args.allocs.now c.args.colours.now c.args.ends.now) (le-ltb _ _ c.if-w-ge256.true))
-    (record { allocs = standing c.requires.masked; colours = refl; ends = refl })
+    (record { slices = record { allocs = standing c.requires.masked; colours = refl; ends = refl }; needed = rw (le-ltb _ _ c.if-w-ge256.true) refl })
 
 -- ---- a colour that is found, and one that is free: the code's choice is the definition's
 
@@ -30,14 +30,22 @@ returns-in-Found c =
     let s = standing c.requires.masked in
     let found = sym (c.choose.ensures _ c.args.i _ s) ∙ c.in-Found.is in
     rw (step_found c.args.allocs.now.count c.args.i c.args.next c.args.w (held_in c.args.want) (slices_in c.args.allocs.now c.args.colours.now c.args.ends.now) (lt-ltb _ _ c.if-w-ge256.false) found)
-    (record { allocs = c.assign.ensures c.args.allocs.now.count _ (choose_found c.args.allocs.now.count c.args.i _ (held_in c.args.want) _ found).0 s; colours = refl; ends = refl })
+    (let inside = (choose_found c.args.allocs.now.count c.args.i _ (held_in c.args.want) _ found).0 in
+    record {
+      slices = record { allocs = c.assign.ensures.stands c.args.allocs.now.count _ inside s; colours = refl; ends = refl };
+      needed = rw (lt-ltb _ _ c.if-w-ge256.false) (c.assign.ensures.needed c.args.allocs.now.count _ inside s);
+    })
 
 pub returns-in-Free : goal.returns-in-Free
 returns-in-Free c =
     let s = standing c.requires.masked in
     let free = sym (c.choose.ensures _ c.args.i _ s) ∙ c.in-Free.is in
     rw (step_free c.args.allocs.now.count c.args.i c.args.next c.args.w (held_in c.args.want) (slices_in c.args.allocs.now c.args.colours.now c.args.ends.now) (lt-ltb _ _ c.if-w-ge256.false) free)
-    (record { allocs = c.assign-in-Free.ensures c.args.allocs.now.count _ (choose_free c.args.allocs.now.count c.args.i _ (held_in c.args.want) _ free).0 s; colours = refl; ends = refl })
+    (let inside = (choose_free c.args.allocs.now.count c.args.i _ (held_in c.args.want) _ free).0 in
+    record {
+      slices = record { allocs = c.assign-in-Free.ensures.stands c.args.allocs.now.count _ inside s; colours = refl; ends = refl };
+      needed = rw (lt-ltb _ _ c.if-w-ge256.false) (c.assign-in-Free.ensures.needed c.args.allocs.now.count _ inside s);
+    })
 
 pub returns-in-Empty : goal.returns-in-Empty
 returns-in-Empty c =

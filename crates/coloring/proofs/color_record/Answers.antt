@@ -23,8 +23,8 @@ want_y-hy-requires c =
     (record { space_lt_any = c.requires.space_bound; index_lt_any = λ e. partner_below c.args.rec.now (ap is_complex e) c.requires.partner_fits })
 
 -- what the destinations are wanted with is what the definition says
-pub color_dests-requires : goal.color_dests-requires
-color_dests-requires c =
+pub color_dests-most-requires : goal.color_dests-most-requires
+color_dests-most-requires c =
     let same = shape_here c.args.rec.now c.shape_of-s.ensures c.requires.kind_is in
     let x = c.want_x-hx.ensures c.args.allocs.now.count c.args.i _ (standing c.requires.masked) in
     record {
@@ -39,7 +39,7 @@ pub update-requires : goal.update-requires
 update-requires c =
     let f = source_word c.args.renaming.now.regs c.args.colours.now in
     let same = shape_here c.args.rec.now c.shape_of-s.ensures c.requires.kind_is in
-    rw (c.color_dests.ensures.allocs.count, same, c.loc_of-l.ensures, c.source_at-x.ensures, c.source_at-y.ensures)
+    rw (c.color_dests-most.ensures.slices.allocs.count, same, c.loc_of-l.ensures, c.source_at-x.ensures, c.source_at-y.ensures)
     (record {
       space_lt_any = c.requires.space_bound;
       index_lt_any = λ e. partner_below c.args.rec.now (ap is_complex e) c.requires.partner_fits;
@@ -52,7 +52,7 @@ unfolding record_step
 returns c =
     let same = shape_here c.args.rec.now c.shape_of-s.ensures c.requires.kind_is in
     let x = c.want_x-hx.ensures c.args.allocs.now.count c.args.i _ (standing c.requires.masked) in
-    let given = rw (x, c.want_y-hy.ensures, same, c.loc_of-l.ensures, c.source_at-x.ensures) at c.color_dests.ensures in
-    let updated = c.update.ensures _ c.args.i _ given.allocs in
+    let given = rw (x, c.want_y-hy.ensures, same, c.loc_of-l.ensures, c.source_at-x.ensures) at c.color_dests-most.ensures in
+    let updated = c.update.ensures _ c.args.i _ given.slices.allocs in
     let done = rw (same, c.loc_of-l.ensures, c.source_at-x.ensures, c.source_at-y.ensures) at updated in
-    record { allocs = done; colours = given.colours; ends = given.ends }
+    record { slices = record { allocs = done; colours = given.slices.colours; ends = given.slices.ends }; most = given.most }

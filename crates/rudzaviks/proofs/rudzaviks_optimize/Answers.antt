@@ -11,10 +11,10 @@ use Rattle.file.specs.File.{settings_of}
 use Rattle.rudzaviks.proofs.Optimize.{entry_answered, entry_short}
 use Rattle.rudzaviks.proofs.rudzaviks_optimize.Goals as goal
 
-pub returns-then-counts-lt7 : goal.returns-then-counts-lt7
-returns-then-counts-lt7 c =
+pub returns-then-counts-lt-COUNTS : goal.returns-then-counts-lt-COUNTS
+returns-then-counts-lt-COUNTS c =
     let verdict = rw c.settings_of-settings.ensures at c.check_start.ensures in
-    rw c.verdict_word.ensures (entry_short (verdict_in c.check_start.result) c.if-counts-lt7.true verdict)
+    rw c.verdict_word.ensures (entry_short (verdict_in c.check_start.result) c.if-counts-lt-COUNTS.true verdict)
 
 pub returns-in-Ok : goal.returns-in-Ok
 returns-in-Ok c =
@@ -27,8 +27,8 @@ returns-in-Ok c =
     lent c.optimize_words.new.out c.optimize_words.new.colours c.optimize_words.new.ends c.optimize_words.new.set in
     let promised : OptimizedWords settings c.args.list.now c.args.table.now held now_held c.optimize_words.result =
     rw c.settings_of-settings.ensures at c.optimize_words.ensures in
-    let room : 7 ≤ length c.args.counts.now =
-    c.if-counts-lt7.false in
+    let room : 8 ≤ length c.args.counts.now =
+    c.if-counts-lt-COUNTS.false in
     rw c.from.ensures (entry_answered room promised c.in-Ok.is c.write_counts.ensures)
 
 pub returns-in-Err : goal.returns-in-Err
@@ -42,6 +42,6 @@ returns-in-Err c =
     lent c.optimize_words.new.out c.optimize_words.new.colours c.optimize_words.new.ends c.optimize_words.new.set in
     let promised : OptimizedWords settings c.args.list.now c.args.table.now held now_held c.optimize_words.result =
     rw c.settings_of-settings.ensures at c.optimize_words.ensures in
-    let room : 7 ≤ length c.args.counts.now =
-    c.if-counts-lt7.false in
+    let room : 8 ≤ length c.args.counts.now =
+    c.if-counts-lt-COUNTS.false in
     rw c.refusal_word.ensures (entry_answered room promised c.in-Err.is refl)

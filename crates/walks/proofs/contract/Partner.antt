@@ -8,14 +8,13 @@ use mathlib.Core.Logic.{◌⊎◌, ⊎_elim}
 use mathlib.Core.Path.{◌≡◌, refl, sym, ap, subst, ◌∙◌}
 use native.Mathlib.Decide.{dec_lt}
 use native.Mathlib.Omega.{arith}
-use lib.Dec.{T, leb, ltb}
+use lib.Dec.{T, leb}
 use lib.ListN.{length, get_or, take, drop, length-append, length-map, length-take, get_or-append}
 use lib.Seq.{get_or-append-add}
 use borrow.Author.Tests.{leb-true}
-use Rattle.mir.specs.Questions.{partner_fits}
 use Rattle.mir.specs.Records.{is_gen, word_at}
 use Rattle.mir.specs.Renaming.{one}
-use Rattle.mir.specs.Shapes.{any, shape_of, shape_for, dests, sources}
+use Rattle.mir.specs.Shapes.{shape_of, shape_for, dests, sources}
 use Rattle.mir.proofs.Shapes.{truth, each_from, by_kind, regs_in_record, regs_after_kind, dests_are, sources_are}
 use Rattle.passes.specs.Color.{loc_of, source_word}
 use Rattle.theorems.proofs.Lengths.{dests_length, sources_length}

@@ -10,6 +10,7 @@ pub enum Command {
     Reduce,
     Check,
     Survey,
+    Pressure,
     Assemble,
     Disassemble,
 }
@@ -23,6 +24,10 @@ pub struct Arguments {
     pub out: Option<OsString>,
     /// Whether to print the shortened list alone.
     pub plain: bool,
+    /// Whether to print numbers alone.
+    pub stats: bool,
+    /// Where to write a picture to, if one is wanted.
+    pub svg: Option<OsString>,
 }
 
 #[derive(Debug)]
@@ -31,10 +36,11 @@ pub enum Request {
     Run(Arguments),
 }
 
-const COMMANDS: [(&str, Command); 5] = [
+const COMMANDS: [(&str, Command); 6] = [
     ("reduce", Command::Reduce),
     ("check", Command::Check),
     ("survey", Command::Survey),
+    ("pressure", Command::Pressure),
     ("assemble", Command::Assemble),
     ("disassemble", Command::Disassemble),
 ];
@@ -51,7 +57,8 @@ impl Command {
     fn takes(self, option: &str) -> bool {
         match option {
             "-o" => matches!(self, Command::Assemble | Command::Disassemble),
-            "--plain" => self == Command::Reduce,
+            "--plain" | "--stats" => self == Command::Reduce,
+            "--svg" => self == Command::Pressure,
             _ => false,
         }
     }
@@ -86,15 +93,20 @@ fn help_on(topic: &[OsString]) -> Result<Request, Failure> {
 
 fn parse_command(command: Command, words: &[OsString]) -> Result<Request, Failure> {
     let misused = |what: &str| misused(what, Some(command));
-    let (mut file, mut out, mut plain) = (None, None, false);
+    let (mut file, mut out, mut svg) = (None, None, None);
+    let (mut plain, mut stats) = (false, false);
     let mut words = words.iter();
     while let Some(word) = words.next() {
+        let mut name = |option: &str| {
+            let name = words.next().cloned();
+            name.ok_or_else(|| misused(&format!("{option} needs a name")))
+        };
         match word.to_str() {
             Some("--help" | "-h") => return Ok(Request::Help(help::on(command))),
             Some("--plain") if command.takes("--plain") => plain = true,
-            Some("-o") if command.takes("-o") => {
-                out = Some(words.next().ok_or_else(|| misused("-o needs a name"))?.clone());
-            }
+            Some("--stats") if command.takes("--stats") => stats = true,
+            Some("-o") if command.takes("-o") => out = Some(name("-o")?),
+            Some("--svg") if command.takes("--svg") => svg = Some(name("--svg")?),
             Some(option) if option.starts_with('-') && option != "-" => {
                 return Err(misused(&format!("`{option}` is no option of {}", command.name())));
             }
@@ -102,8 +114,11 @@ fn parse_command(command: Command, words: &[OsString]) -> Result<Request, Failur
             _ => return Err(misused(&format!("{} is a second FILE", quoted(word)))),
         }
     }
+    if plain && stats {
+        return Err(misused("--plain and --stats are not for one run"));
+    }
     let file = file.ok_or_else(|| misused("FILE is missing; - stands for standard input"))?;
-    Ok(Request::Run(Arguments { command, file, out, plain }))
+    Ok(Request::Run(Arguments { command, file, out, plain, stats, svg }))
 }
 
 fn quoted(word: &OsStr) -> String {
@@ -136,10 +151,15 @@ mod tests {
     fn options_may_stand_before_and_after_the_file() {
         let before = arguments("assemble -o out in");
         let after = arguments("assemble in -o out");
-        for Arguments { command, file, out, plain } in [before, after] {
-            assert_eq!((command, plain), (Command::Assemble, false));
-            assert_eq!((file, out), ("in".into(), Some("out".into())));
+        for Arguments { command, file, out, plain, stats, svg } in [before, after] {
+            assert_eq!((command, plain, stats), (Command::Assemble, false, false));
+            assert_eq!((file, out, svg), ("in".into(), Some("out".into()), None));
         }
+        for line in ["pressure --svg out in", "pressure in --svg out"] {
+            let Arguments { file, svg, .. } = arguments(line);
+            assert_eq!((file, svg), ("in".into(), Some("out".into())), "{line}");
+        }
+        assert!(arguments("reduce - --stats").stats);
         assert!(arguments("reduce --plain -").plain);
         assert_eq!(arguments("check -").file, "-");
     }
@@ -167,6 +187,11 @@ mod tests {
             ("check --plain x", "`--plain` is no option of check"),
             ("survey -o x y", "`-o` is no option of survey"),
             ("assemble x -o", "-o needs a name"),
+            ("reduce x --plain --stats", "--plain and --stats are not for one run"),
+            ("reduce --svg x y", "`--svg` is no option of reduce"),
+            ("pressure --stats x", "`--stats` is no option of pressure"),
+            ("pressure x --svg", "--svg needs a name"),
+            ("pressure --svg x", "FILE is missing"),
         ];
         for (line, what) in cases {
             let failure = parsed(line).expect_err(line);

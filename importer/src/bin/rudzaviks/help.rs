@@ -12,6 +12,7 @@ usage: rudzaviks COMMAND [OPTIONS] FILE
   reduce       show a list before and after, and why each dropped line was dropped
   check        say whether a list may be reduced; if not, which line is at fault and why
   survey       show which registers a list uses, and where its labels are
+  pressure     show how many registers are needed past each line, as a chart or as a picture
   assemble     write a list as a file of words
   disassemble  write a list as text
   help         this text; `help COMMAND` says more, `help text` explains the text form
@@ -26,12 +27,16 @@ text. What went wrong is said on standard error, with its line and column.
 const FILE: &str = "\nFILE is a list, as text or as a file of words; - is standard input.\n";
 
 const REDUCE: &str = "\
-usage: rudzaviks reduce [--plain] FILE
+usage: rudzaviks reduce [--plain | --stats] FILE
 
 Shortens the list and shows it before and after, side by side. In between stands | where a line's
-registers changed and < where it was dropped; then the reason follows in the place of the line.
+registers changed and < where it was dropped; then the reason follows in the place of the line. The
+last lines count what there was, what is left and what was dropped, and tell how many registers are
+needed at once at most; `pressure` shows where.
 
   --plain  print the shortened list alone, as text that every command reads
+  --stats  print these counts alone, one to a line, and how many values are written to general
+           registers and how many locations are read
 ";
 
 const CHECK: &str = "\
@@ -60,6 +65,23 @@ Of the eleven questions only 1, 3 and 5 to 7 are put: a list that may not be red
 all the same. A refusal is explained as `check` does it.
 ";
 
+const PRESSURE: &str = "\
+usage: rudzaviks pressure [--svg OUT] FILE
+
+Shows how full the registers get: for each line how many registers of the shortened list are needed
+past it, as a number and as a bar. < marks a line that was dropped. The last line tells the largest
+of these numbers, of how many registers there are, and where it comes first.
+
+A register is needed past a line if a value that was put into it by then is read later. Two values
+in one register count once. What happens to be left in a register until a load of it is dropped is
+not needed in between; and behind a goto nothing that was written before it is.
+
+  --svg OUT  write a picture to OUT as well: for each register a bar from where a value is written
+             to where it is last read, over the lines; below it how many are needed. Any browser
+             shows it, and tells the line that the pointer is on. Where there are too many lines
+             for one to be seen, those that fall together are drawn as one.
+";
+
 const ASSEMBLE: &str = "\
 usage: rudzaviks assemble [-o OUT] FILE
 
@@ -83,6 +105,7 @@ pub fn on(command: Command) -> String {
         Command::Reduce => REDUCE,
         Command::Check => CHECK,
         Command::Survey => SURVEY,
+        Command::Pressure => PRESSURE,
         Command::Assemble => ASSEMBLE,
         Command::Disassemble => DISASSEMBLE,
     };

@@ -6,7 +6,7 @@ use std::{fs, io};
 
 use rudzaviks::record::Records;
 use rudzaviks::text::{self, Parsed};
-use rudzaviks::{file, Settings};
+use rudzaviks::{file, Instruction, Settings};
 
 use crate::excerpt::excerpt;
 use crate::explain;
@@ -97,6 +97,11 @@ impl Input {
                 words.map(u32::to_string).collect::<Vec<_>>().join(" ")
             }
         }
+    }
+
+    /// The instruction of a record of a list that was reduced, and so has a meaning.
+    pub fn instruction(&self, index: usize) -> Instruction {
+        self.records.instruction(index).expect("a list that was reduced has a meaning")
     }
 
     /// The name, and of a text the record's line.

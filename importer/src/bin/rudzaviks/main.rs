@@ -1,5 +1,5 @@
-//! The command-line tool: shortens lists, checks and surveys them, and turns text into files and
-//! back.
+//! The command-line tool: shortens lists, checks and surveys them, shows how full the registers get,
+//! and turns text into files and back.
 
 use std::ffi::OsString;
 use std::process::ExitCode;
@@ -12,14 +12,18 @@ use failure::Failure;
 use input::Input;
 
 mod arguments;
+mod counts;
 mod excerpt;
 mod explain;
 mod failure;
 mod help;
 mod input;
 mod output;
+mod picture;
+mod pressure;
 mod side_by_side;
 mod survey;
+mod table;
 mod wrap;
 
 fn main() -> ExitCode {
@@ -47,11 +51,13 @@ fn execute(arguments: &Arguments, input: &Input) -> Result<(), Failure> {
     match arguments.command {
         Command::Reduce => {
             let reduced = reduced(input)?;
-            if arguments.plain {
-                output::print(&text::print(&reduced.list, &input.settings))
+            output::print(&if arguments.plain {
+                text::print(&reduced.list, &input.settings)
+            } else if arguments.stats {
+                counts::table(&reduced, &input.settings)
             } else {
-                output::print(&side_by_side::show(input, &reduced))
-            }
+                side_by_side::show(input, &reduced)
+            })
         }
         Command::Check => {
             reduced(input)?;
@@ -61,6 +67,13 @@ fn execute(arguments: &Arguments, input: &Input) -> Result<(), Failure> {
             let survey = rudzaviks::survey(&input.records, &input.settings);
             let survey = survey.map_err(|refusal| explain::refused(input, refusal))?;
             output::print(&survey::show(input, &survey))
+        }
+        Command::Pressure => {
+            let reduced = reduced(input)?;
+            if let Some(path) = &arguments.svg {
+                output::write(picture::draw(input, &reduced).as_bytes(), path)?;
+            }
+            output::print(&pressure::show(input, &reduced))
         }
         Command::Assemble => {
             let file = file::write(&input.records, &input.settings);

@@ -28,7 +28,7 @@ pub fn write_file(file: &[u8], out: Option<&OsStr>) -> Result<(), Failure> {
     }
 }
 
-fn write(bytes: &[u8], path: &OsStr) -> Result<(), Failure> {
+pub fn write(bytes: &[u8], path: &OsStr) -> Result<(), Failure> {
     let written = fs::write(path, bytes);
     written.map_err(|error| cannot_write(&Path::new(path).display().to_string(), error))
 }

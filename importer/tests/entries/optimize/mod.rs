@@ -3,6 +3,7 @@
 
 mod branches;
 mod exhaustive;
+mod fullest;
 mod known;
 mod random;
 mod refusals;

@@ -1,13 +1,11 @@
 -- `walks::contract::contract` meets its contract: before each record the output, the ends and the counts are the
 -- definitions', by what `Contracting` says of a record.
-use Prim.Native.Nat.{ℕ, ◌-◌, ◌≤◌}
-use mathlib.Core.List.{List, []}
-use mathlib.Core.Path.{◌≡◌, refl}
+use Prim.Native.Nat.{ℕ, ◌≤◌}
+use mathlib.Core.List.{List}
+use mathlib.Core.Path.{refl}
 use native.Mathlib.Omega.{arith}
-use lib.ListN.{length, get_or}
-use Rattle.mir.specs.Renaming.{gens}
-use Rattle.mir.specs.Shapes.{dests}
-use Rattle.mir.proofs.Renaming.{gens_two, walked_first, walked_next}
+use lib.ListN.{length}
+use Rattle.mir.proofs.Renaming.{walked_first, walked_next}
 use Rattle.mir.specs.declared.config.Settings.{Settings}
 use Rattle.passes.specs.declared.symbol.Loc.{Loc}
 use Rattle.sets.specs.Members.{members_in}
