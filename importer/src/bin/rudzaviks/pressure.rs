@@ -27,7 +27,7 @@ pub fn show(input: &Input, reduced: &Reduced) -> String {
     format!("{settings}\n\n{}\n{}", columns(&rows, said), summary(input, reduced))
 }
 
-fn is_dropped(outcome: &Outcome) -> bool {
+pub fn is_dropped(outcome: &Outcome) -> bool {
     matches!(outcome, Outcome::Dropped(_))
 }
 

@@ -26,7 +26,7 @@ impl<'a> Facts<'a> {
     }
 
     pub fn is_dropped(&self, index: usize) -> bool {
-        matches!(self.reduced.outcomes[index], Outcome::Dropped(_))
+        pressure::is_dropped(&self.reduced.outcomes[index])
     }
 
     /// An instruction as it is left, with the registers of the rows; one that was dropped as it was
@@ -95,7 +95,7 @@ fn left(reduced: &Reduced) -> Vec<Stretch> {
     let gap = |stretch: &Stretch| {
         let needed = &mut needed[usize::from(stretch.register)];
         let from = std::mem::replace(needed, stretch.until.max(*needed));
-        let is_dropped = matches!(reduced.outcomes[stretch.written], Outcome::Dropped(_));
+        let is_dropped = pressure::is_dropped(&reduced.outcomes[stretch.written]);
         let left = Stretch { written: from, until: stretch.written, ..*stretch };
         (is_dropped && left.is_read()).then_some(left)
     };
