@@ -255,6 +255,14 @@ impl Instruction {
         }
     }
 
+    /// Whether it is of a kind that the theorems about runs cover: all but calls and what loads and
+    /// saves their arguments. That a shortened list computes the same is proved of lists of such
+    /// instructions alone.
+    pub fn is_covered(&self) -> bool {
+        use Instruction::{Call, LoadArgs, SaveArgs};
+        !matches!(self, LoadArgs { .. } | SaveArgs { .. } | Call { .. })
+    }
+
     /// Whether no general register has a value after it.
     pub fn forgets(&self) -> bool {
         matches!(self, Instruction::Label { .. } | Instruction::Call { .. })

@@ -33,6 +33,10 @@
 //!
 //! Lists can be written and read as [`text`], and as a [`mod@file`] of words; the command-line tool
 //! `rudzaviks` does both, and shows what became of each line.
+//!
+//! The feature `library`, on unless `default-features = false` is asked, links the verified library,
+//! which must have been built. Without it there are texts, files and records, but no answers:
+//! [`reduce`], [`survey()`] and [`file::reduce`] panic, as [`ffi::LINKED`] tells beforehand.
 
 #![warn(missing_docs)]
 

@@ -9,18 +9,29 @@
 //!
 //! let mistake = text::parse("settings count_regs=2\n%0 := Mem 3\n").unwrap_err();
 //! assert_eq!(mistake.to_string(), "line 2, column 11: expected `[`, found `3`");
+//!
+//! let text = "settings count_regs=2\n%0 := Mem 3\nend\nfoo\nbar\n";
+//! let mistakes = text::parse_all(text, 2).unwrap_err();
+//! let lines: Vec<usize> = mistakes.told.iter().map(|mistake| mistake.line).collect();
+//! assert_eq!((lines, mistakes.count), (vec![2, 4], 3));
 //! # Ok::<(), text::ParseError>(())
 //! ```
 
-use std::fmt::{self, Write};
+use std::fmt::Write;
 use std::str::FromStr;
 
 use crate::ffi::Settings;
 use crate::instruction::Instruction;
 
+mod mistake;
 mod parse;
 mod print;
+mod printable;
+mod settings;
 mod tokens;
+
+pub use mistake::{Mistakes, ParseError};
+pub use printable::printable;
 
 /// This description of the text form.
 pub const FORM: &str = include_str!("text/form.md");
@@ -36,37 +47,15 @@ pub struct Parsed {
     pub lines: Vec<usize>,
 }
 
-/// A mistake in a text.
-#[derive(Clone, Debug, PartialEq, Eq)]
-pub struct ParseError {
-    /// The line, from 1 on.
-    pub line: usize,
-    /// The column, from 1 on, in characters.
-    pub column: usize,
-    /// What could stand there.
-    pub expected: String,
-    /// What stands there.
-    pub found: String,
-}
-
-impl ParseError {
-    /// What is wrong, without the place.
-    pub fn what(&self) -> String {
-        format!("expected {}, found {}", self.expected, self.found)
-    }
-}
-
-impl fmt::Display for ParseError {
-    fn fmt(&self, f: &mut fmt::Formatter) -> fmt::Result {
-        write!(f, "line {}, column {}: {}", self.line, self.column, self.what())
-    }
-}
-
-impl std::error::Error for ParseError {}
-
-/// Reads the text of a list.
+/// Reads the text of a list, up to its first mistake.
 pub fn parse(text: &str) -> Result<Parsed, ParseError> {
     parse::list(text)
+}
+
+/// Reads the text of a list to its end; if it has mistakes, tells the first of them, at most so
+/// many, and counts them all.
+pub fn parse_all(text: &str, most: usize) -> Result<Parsed, Mistakes> {
+    parse::whole_list(text, most)
 }
 
 /// The text of a list.
@@ -84,5 +73,35 @@ impl FromStr for Instruction {
     /// Reads the text of one instruction.
     fn from_str(text: &str) -> Result<Instruction, ParseError> {
         parse::one(text)
+    }
+}
+
+#[cfg(test)]
+mod tests {
+    use super::*;
+    use crate::instruction::{ArithOp, BinOp, UniOp};
+
+    /// The operations of a kind, as the description names them.
+    fn named(kind: &str) -> Vec<&'static str> {
+        let (_, operations) = FORM.split_once("\nThe operations").expect("they are named");
+        let (_, rest) = operations.split_once(&format!("\n{kind} ")).expect("a line of the kind");
+        let end = rest.find(";").into_iter().chain(rest.find("\n```"));
+        let end = end.chain(rest.match_indices('\n').find_map(|(at, _)| {
+            let goes_on = rest[at + 1..].starts_with(' ');
+            (!goes_on).then_some(at)
+        }));
+        let names = &rest[..end.min().expect("an end")];
+        names.split([',', ' ', '\n']).filter(|name| !name.is_empty()).collect()
+    }
+
+    fn texts<T: ToString>(all: &[T]) -> Vec<String> {
+        all.iter().map(T::to_string).collect()
+    }
+
+    #[test]
+    fn every_operation_is_described_in_the_order_of_its_number() {
+        assert_eq!(named("Uni"), texts(UniOp::ALL));
+        assert_eq!(named("Bi"), texts(BinOp::ALL));
+        assert_eq!(named("LoadMath"), texts(ArithOp::ALL));
     }
 }

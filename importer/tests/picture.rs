@@ -281,7 +281,7 @@ fn it_is_told_where_most_are_needed() {
 fn names_are_escaped_and_long_ones_clipped() {
     let name = "a <b> & \"c\" \u{1}'.txt";
     let picture = parsed(&drawn(name, SMALL));
-    let shown = "a <b> & \"c\" \u{fffd}'.txt: 2 of 3 registers";
+    let shown = "a <b> & \"c\" \\u{1}'.txt: 2 of 3 registers";
     assert_eq!(picture.class("title")[0].text, shown);
     assert_eq!(picture.children[0].text, shown);
     let long = format!("{}.txt", "x".repeat(200));

@@ -1,6 +1,9 @@
 // Standard input and output of the programs: words that are read, and what reducing a file gives, as text.
 #![tactic(auto)]
 
+#[cfg(test)]
+mod tests;
+
 ghost use Rattle.std.specs.Prelude.{◌≡◌, ◌≤◌, min, length, IfOk, IfSome};
 ghost use Rattle.file.specs.File.{word_in};
 
@@ -92,8 +95,30 @@ pub fn show(out: &mut impl Write, file: &[u8]) -> io::Result<()> {
     }
 }
 
+// That the input was not read or the output not written, and why.
+#[derive(Debug, Drop)]
+pub enum Failure {
+    Input(io::Error),
+    Output(io::Error),
+}
+
+impl fmt::Display for Failure {
+    fn fmt<W: fmt::Write>(&self, f: &mut fmt::Formatter<W>) -> fmt::Result {
+        match self {
+            Failure::Input(why) => write!(f, "can't read standard input: {why}"),
+            Failure::Output(why) => write!(f, "can't write standard output: {why}"),
+        }
+    }
+}
+
 // Reads the input into `file`, as far as there is room, and shows what reducing it gives.
-pub fn show_input(input: &mut impl Read, out: &mut impl Write, file: &mut [u8]) -> io::Result<()> {
-    let n = read_full(input, file)?;
-    show(out, &file[..n])
+pub fn show_input(
+    input: &mut impl Read,
+    out: &mut impl Write,
+    file: &mut [u8],
+) -> Result<(), Failure> {
+    match read_full(input, file) {
+        Ok(n) => show(out, &file[..n]).map_err(Failure::Output),
+        Err(why) => Err(Failure::Input(why)),
+    }
 }

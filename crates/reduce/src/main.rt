@@ -2,9 +2,16 @@
 #![tactic(auto)]
 
 use console::{FILE, show_input};
-use std::io;
+use std::process::ExitCode;
 
-fn main(rt: HostRuntime) -> io::Result<()> {
+// A failed read or write is told on standard error, and by the exit status.
+fn main(rt: HostRuntime) -> ExitCode {
     let mut file = [0u8; FILE];
-    show_input(&mut rt.stdin(), &mut rt.stdout(), &mut file)
+    match show_input(&mut rt.stdin(), &mut rt.stdout(), &mut file) {
+        Ok(()) => ExitCode::SUCCESS,
+        Err(failure) => {
+            let _ = eprintln!(rt; "reduce: {failure}");
+            ExitCode::FAILURE
+        }
+    }
 }

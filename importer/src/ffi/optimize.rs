@@ -1,8 +1,8 @@
 //! Reducing a list.
 
-use super::{refusal, Refusal};
+use super::{entry, refusal, Refusal};
 
-extern "C" {
+entry! {
     fn rudzaviks_optimize(
         list: *const u32,
         list_len: usize,

@@ -1,8 +1,8 @@
 //! Reducing a list that comes as a file.
 
-use super::{refusal, Refusal};
+use super::{entry, refusal, Refusal};
 
-extern "C" {
+entry! {
     fn rudzaviks_reduce(file: *const u8, file_len: usize, out: *mut u8, out_len: usize) -> u64;
 }
 

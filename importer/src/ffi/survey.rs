@@ -1,8 +1,8 @@
 //! The operation beside the passes: which registers a list uses, and where a label is.
 
-use super::{refusal, Refusal};
+use super::{entry, refusal, Refusal};
 
-extern "C" {
+entry! {
     fn rudzaviks_survey(
         list: *const u32,
         list_len: usize,

@@ -109,16 +109,27 @@ impl Fields<'_> {
         Ok(location(space, self.word()).expect("the space is one of the three"))
     }
 
+    /// The locations of LoadArgs. Whether the table has all the pairs comes first: a count that
+    /// is far off must not be blamed on a pair that it was not meant to name.
     fn locs(&mut self) -> Read<Vec<Loc>> {
+        let (pairs, _) = self.table.as_chunks();
+        let has = || counted(pairs.len());
         let first = self.word() as usize;
-        let count = self.word() as usize;
-        let pairs = self.table.chunks_exact(2).skip(first).take(count);
-        let locs: Option<Vec<Loc>> = pairs.map(|pair| location(pair[0], pair[1])).collect();
-        match locs {
-            Some(locs) if first + count <= self.table.len() / 2 => Ok(locs),
-            Some(_) => Err(self.bad("a count of pairs that the table has from the first on")),
-            None => Err(self.bad("a count of pairs that are all of space 0 to 2")),
+        if first > pairs.len() {
+            return Err(self.bad(&format!("at most {}, for the table has {}", pairs.len(), has())));
         }
+        let count = self.word() as usize;
+        let Some(named) = pairs[first..].get(..count) else {
+            let named = format!("pairs that the table has from pair {first} on");
+            return Err(self.bad(&format!("a count of {named}; it has {}", has())));
+        };
+        let loc = |(at, [space, index]): (usize, &[u32; 2])| {
+            location(*space, *index).ok_or_else(|| {
+                let pair = format!("pair {} is of space {space}", first + at);
+                self.bad(&format!("a count of pairs that are all of space 0 to 2, but {pair}"))
+            })
+        };
+        named.iter().enumerate().map(loc).collect()
     }
 
     fn flag(&mut self) -> Read<bool> {
@@ -142,6 +153,10 @@ impl Fields<'_> {
         }
         Ok(())
     }
+}
+
+fn counted(pairs: usize) -> String {
+    format!("{pairs} pair{}", if pairs == 1 { "" } else { "s" })
 }
 
 fn location(space: u32, index: u32) -> Option<Loc> {
@@ -189,9 +204,43 @@ mod tests {
         let good = instruction(&[10, 0, 1, 0, 1, 0, 0, 0], &table);
         let locs = vec![Loc::Mem(3)];
         assert_eq!(good, Ok(Instruction::LoadArgs { locs, complex: false, ultra: true }));
-        assert!(why([10, 1, 1, 0, 0, 0, 0, 0], &table).contains("space 0 to 2"));
-        assert!(why([10, 2, 1, 0, 0, 0, 0, 0], &table).contains("table has"));
-        assert!(why([10, u32::MAX, u32::MAX, 0, 0, 0, 0, 0], &table).contains("table has"));
         assert!(instruction(&[10, 2, 0, 0, 0, 0, 0, 0], &table).is_ok());
+        let bad = "word 2 is 2 and should be a count of pairs that are all of space 0 to 2, but \
+                   pair 1 is of space 7";
+        assert_eq!(why([10, 0, 2, 0, 0, 0, 0, 0], &table), bad);
+        let far = "word 2 is 4294967295 and should be a count of pairs that the table has from \
+                   pair 1 on; it has 2 pairs";
+        assert_eq!(why([10, 1, u32::MAX, 0, 0, 0, 0, 0], &table), far);
+        let one = "word 2 is 2 and should be a count of pairs that the table has from pair 0 on; \
+                   it has 1 pair";
+        assert_eq!(why([10, 0, 2, 0, 0, 0, 0, 0], &table[..2]), one);
+        let first = "word 1 is 4294967295 and should be at most 2, for the table has 2 pairs";
+        assert_eq!(why([10, u32::MAX, u32::MAX, 0, 0, 0, 0, 0], &table), first);
+    }
+
+    /// What the text ends with for naming pairs of a table with these spaces; none if all is well.
+    fn blamed(spaces: &[u32], first: usize, count: usize) -> Option<String> {
+        let has = spaces.len();
+        if first > has {
+            return Some(format!("at most {has}, for the table has {has} pairs"));
+        }
+        if first + count > has {
+            return Some(format!("from pair {first} on; it has {has} pairs"));
+        }
+        let bad = (first..first + count).find(|at| spaces[*at] > 2)?;
+        Some(format!("but pair {bad} is of space {}", spaces[bad]))
+    }
+
+    #[test]
+    fn the_first_bad_pair_of_those_that_are_named_is_told() {
+        let spaces = [0, 9, 1, 2, 8, 7];
+        let table: Vec<u32> = spaces.iter().flat_map(|space| [*space, 3]).collect();
+        for (first, count) in (0..64).map(|at| (at / 8, at % 8)) {
+            let read = instruction(&[10, first, count, 0, 0, 0, 0, 0], &table);
+            let said = read.err().map_or(String::new(), |bad| bad.to_string());
+            let blamed = blamed(&spaces, first as usize, count as usize);
+            assert_eq!(said.is_empty(), blamed.is_none());
+            assert!(said.ends_with(&blamed.unwrap_or_default()), "{first}, {count}: {said}");
+        }
     }
 }

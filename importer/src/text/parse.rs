@@ -1,57 +1,72 @@
 //! Text to instructions.
 
+use std::convert::Infallible;
 use std::fmt::Display;
 
+use super::settings::{nothing, settings};
 use super::tokens::{Result, Tokens};
-use super::Parsed;
+use super::{Mistakes, ParseError, Parsed};
 use crate::ffi::Settings;
 use crate::instruction::{ArithOp, BinOp, FusedOp, Instruction, Loc, Reg, UniOp};
 
+/// Reads a list up to its first mistake.
 pub fn list(text: &str) -> Result<Parsed> {
-    // Some editors put a mark before the text.
-    let text = text.strip_prefix('\u{feff}').unwrap_or(text);
-    let lines = text.lines().enumerate().map(|(at, line)| Tokens::new(line, at + 1));
-    let mut lines = lines.filter(|line| !line.is_empty());
-    // An empty text lacks its settings in line 1.
-    let mut first = lines.next().unwrap_or(Tokens::new("", 1));
-    let mut parsed =
-        Parsed { settings: settings(&mut first)?, list: Vec::new(), lines: Vec::new() };
-    for mut line in lines {
-        parsed.list.push(whole(&mut line)?);
-        parsed.lines.push(line.number());
+    read(text, Err)
+}
+
+/// Reads a list to its end, and tells at most so many of its mistakes.
+pub fn whole_list(text: &str, most: usize) -> Result<Parsed, Mistakes> {
+    let mut mistakes = Mistakes { told: Vec::new(), count: 0 };
+    let add = |mistake| -> Result<(), Infallible> {
+        mistakes.add(mistake, most);
+        Ok(())
+    };
+    let Ok(parsed) = read(text, add);
+    match mistakes.count {
+        0 => Ok(parsed),
+        _ => Err(mistakes),
     }
-    Ok(parsed)
 }
 
 pub fn one(text: &str) -> Result<Instruction> {
     whole(&mut Tokens::new(text, 1))
 }
 
-fn settings(line: &mut Tokens) -> Result<Settings> {
-    if !line.accept("settings") {
-        return Err(line.expected("the settings first, as in `settings count_regs=4 args=0`"));
+/// Reads a list. A line with a mistake is left out, unless the mistake is to end the reading.
+fn read<E>(
+    text: &str,
+    mut on_mistake: impl FnMut(ParseError) -> Result<(), E>,
+) -> Result<Parsed, E> {
+    // Some editors put a mark before the text.
+    let text = text.strip_prefix('\u{feff}').unwrap_or(text);
+    let lines = text.lines().enumerate().map(|(at, line)| Tokens::new(line, at + 1));
+    let mut lines = lines.filter(|line| !line.is_empty());
+    let first = lines.next().map_or_else(|| Err(nothing(text)), |mut line| settings(&mut line));
+    let mut parsed = Parsed { settings: Settings::default(), list: Vec::new(), lines: Vec::new() };
+    match first {
+        Ok(settings) => parsed.settings = settings,
+        Err(mistake) => on_mistake(mistake)?,
     }
-    let mut settings = Settings::default();
-    line.expect("count_regs")?;
-    settings.count_regs = setting(line)?;
-    while !line.peek().is_empty() {
-        match line.peek() {
-            "args" => {
-                line.take();
-                settings.args = setting(line)?;
+    for mut line in lines {
+        match listed(&mut line) {
+            Ok(ins) => {
+                parsed.list.push(ins);
+                parsed.lines.push(line.number());
             }
-            "complex" => settings.complex = line.accept("complex"),
-            "arm" => settings.arm = line.accept("arm"),
-            "compress" => settings.compress = line.accept("compress"),
-            _ => return Err(line.expected("`args`, `complex`, `arm` or `compress`")),
+            Err(mistake) => on_mistake(mistake)?,
         }
     }
-    Ok(settings)
+    Ok(parsed)
 }
 
-fn setting(line: &mut Tokens) -> Result<u32> {
-    line.expect("=")?;
-    number(line)
+/// An instruction of a list.
+fn listed(line: &mut Tokens) -> Result<Instruction> {
+    match line.peek() {
+        "settings" => {
+            Err(line.expected("an instruction (the settings stand once, before all instructions)"))
+        }
+        _ => whole(line),
+    }
 }
 
 /// An instruction, and nothing after it.
@@ -286,7 +301,7 @@ fn index(line: &mut Tokens) -> Result<u32> {
     Ok(index)
 }
 
-fn number(line: &mut Tokens) -> Result<u32> {
+pub fn number(line: &mut Tokens) -> Result<u32> {
     line.read(line.peek().parse().ok(), "a number up to 4294967295")
 }
 
@@ -352,23 +367,52 @@ mod tests {
         assert!(why("%x := %1").starts_with("1: expected a register"));
     }
 
+    fn mistakes(text: &str, most: usize) -> Mistakes {
+        whole_list(text, most).unwrap_err()
+    }
+
     #[test]
-    fn the_settings_come_first_and_once() {
-        let full = list("# a list\n\n settings count_regs=3 args=2 complex arm compress\n\nnop\n");
-        let parsed = full.unwrap();
-        let settings =
-            Settings { count_regs: 3, args: 2, complex: true, arm: true, compress: true };
-        assert_eq!((parsed.settings, parsed.lines), (settings, vec![5]));
-        let few = list("\u{feff}settings count_regs=0").unwrap();
-        assert_eq!((few.settings, few.list), (Settings::default(), vec![]));
-        let why = |text: &str| list(text).unwrap_err().to_string();
-        let first = "line 1, column 1: expected the settings first, as in `settings count_regs=4 \
-                     args=0`, found ";
-        assert_eq!(why(""), format!("{first}the end of the line"));
-        assert_eq!(why("nop\nsettings count_regs=1"), format!("{first}`nop`"));
-        let twice = why("settings count_regs=1\nsettings count_regs=1");
-        assert_eq!(twice, "line 2, column 1: expected an instruction, found `settings`");
-        assert!(why("settings args=1").starts_with("line 1, column 10: expected `count_regs`"));
-        assert!(why("settings count_regs=1 amd").contains("`complex`, `arm` or `compress`"));
+    fn every_line_may_have_a_mistake_and_only_one() {
+        let text = "settings count_regs=2 args\nnop nop nop\nend\n# no\n\n%0 = %1 = %2\n7:\nnoop";
+        let Mistakes { told, count } = mistakes(text, usize::MAX);
+        let places: Vec<(usize, usize)> = told.iter().map(|it| (it.line, it.column)).collect();
+        assert_eq!((places, count), (vec![(1, 27), (2, 5), (6, 4), (8, 1)], 4));
+        for most in 0..=5 {
+            let some = mistakes(text, most);
+            assert_eq!((some.told.as_slice(), some.count), (&told[..most.min(4)], 4));
+        }
+        assert_eq!(list(text), Err(told[0].clone()));
+    }
+
+    #[test]
+    fn a_text_without_settings_is_read_on() {
+        let settings_first = |found: &str| {
+            format!(
+                "line 1, column 1: expected the settings first, as in `settings count_regs=4 \
+                 args=0`, found {found}"
+            )
+        };
+        // The first line is one mistake, whether it is an instruction or not.
+        for (first, found) in [("nop", "`nop`"), ("%0 = 1", "`%0`")] {
+            let all = mistakes(&format!("{first}\nend\nnoop\n"), 9);
+            let noop = "line 3, column 1: expected an instruction, found `noop`";
+            assert_eq!(all.to_string(), format!("{}\n{noop}", settings_first(found)));
+        }
+        let late = mistakes("nop\nsettings count_regs=1\nend\n", 9);
+        let once =
+            "line 2, column 1: expected an instruction (the settings stand once, before all \
+                    instructions), found `settings`";
+        assert_eq!(late.to_string(), format!("{}\n{once}", settings_first("`nop`")));
+        let again = mistakes("settings count_regs=1\nsettings count_regs=1\n", 9);
+        assert_eq!(again.to_string(), once);
+    }
+
+    #[test]
+    fn what_is_not_told_is_counted() {
+        let text = "settings count_regs=1\nfoo\nbar\nbaz\n";
+        let foo = "line 2, column 1: expected an instruction, found `foo`";
+        assert_eq!(mistakes(text, 1).to_string(), format!("{foo}\nand 2 more"));
+        assert_eq!(mistakes(text, 0).to_string(), "3 mistakes");
+        assert_eq!(mistakes("", 0).to_string(), "1 mistake");
     }
 }

@@ -1,37 +1,36 @@
 //! The tokens of a line.
 
-use super::ParseError;
+use super::{printable, ParseError};
 
-pub type Result<T> = std::result::Result<T, ParseError>;
+pub type Result<T, E = ParseError> = std::result::Result<T, E>;
 
-#[derive(Clone, Copy)]
-struct Token<'a> {
-    text: &'a str,
-    column: usize,
-}
+/// The most characters of a token that a mistake shows.
+const MOST_SHOWN: usize = 40;
 
-/// A line's tokens and how many of them were taken.
+/// A line's tokens, found one by one.
 pub struct Tokens<'a> {
-    tokens: Vec<Token<'a>>,
-    next: usize,
+    /// The line up to a comment, without spaces at its end.
+    text: &'a str,
     line: usize,
-    /// The column after the line's last token.
-    end: usize,
+    /// Where the next token is in the text; its end, if there is none.
+    at: usize,
+    /// The next token; the empty text at the end.
+    next: &'a str,
 }
 
 impl<'a> Tokens<'a> {
-    /// The tokens of a line, up to a comment.
     pub fn new(text: &'a str, line: usize) -> Tokens<'a> {
         let text = text.split('#').next().unwrap_or_default().trim_end();
-        let mut tokens = Vec::new();
-        let mut at = 0;
-        while let Some(space) = text[at..].find(|c: char| !c.is_whitespace()) {
-            let start = at + space;
-            at = start + length(&text[start..]);
-            let column = text[..start].chars().count() + 1;
-            tokens.push(Token { text: &text[start..at], column });
-        }
-        Tokens { tokens, next: 0, line, end: text.chars().count() + 1 }
+        let mut tokens = Tokens { text, line, at: 0, next: "" };
+        tokens.find(0);
+        tokens
+    }
+
+    /// Finds the next token, which is not before this place.
+    fn find(&mut self, from: usize) {
+        let rest = self.text[from..].trim_start();
+        self.at = self.text.len() - rest.len();
+        self.next = &rest[..length(rest)];
     }
 
     /// The line's number.
@@ -39,27 +38,28 @@ impl<'a> Tokens<'a> {
         self.line
     }
 
+    /// Whether no token is left.
     pub fn is_empty(&self) -> bool {
-        self.tokens.is_empty()
+        self.next.is_empty()
     }
 
     /// The next token; the empty text at the end.
     pub fn peek(&self) -> &'a str {
-        self.tokens.get(self.next).map_or("", |token| token.text)
+        self.next
     }
 
     /// Takes the next token.
     pub fn take(&mut self) -> &'a str {
-        let text = self.peek();
-        self.next += 1;
+        let text = self.next;
+        self.find(self.at + text.len());
         text
     }
 
     /// Takes the next token if it is the given one.
     pub fn accept(&mut self, text: &str) -> bool {
-        let accepted = self.peek() == text;
+        let accepted = self.next == text;
         if accepted {
-            self.next += 1;
+            self.take();
         }
         accepted
     }
@@ -75,12 +75,12 @@ impl<'a> Tokens<'a> {
     /// Takes the next token, which must have a meaning.
     pub fn read<T>(&mut self, meaning: Option<T>, expected: &str) -> Result<T> {
         let value = meaning.ok_or_else(|| self.expected(expected))?;
-        self.next += 1;
+        self.take();
         Ok(value)
     }
 
     pub fn end(&self) -> Result<()> {
-        match self.peek() {
+        match self.next {
             "" => Ok(()),
             _ => Err(self.expected("the end of the line")),
         }
@@ -88,16 +88,26 @@ impl<'a> Tokens<'a> {
 
     /// The error that the next token is something else.
     pub fn expected(&self, expected: impl Into<String>) -> ParseError {
-        let (column, found) = match self.tokens.get(self.next) {
-            Some(token) => (token.column, format!("`{}`", token.text)),
-            None => (self.end, "the end of the line".to_string()),
+        let found = match self.next {
+            "" => "the end of the line".to_string(),
+            token => quoted(token),
         };
+        // Counted for a mistake alone: if it were for each token, a long line would take long.
+        let column = self.text[..self.at].chars().count() + 1;
         ParseError { line: self.line, column, expected: expected.into(), found }
     }
 }
 
+/// A token as a mistake shows it.
+fn quoted(token: &str) -> String {
+    match token.char_indices().nth(MOST_SHOWN) {
+        Some((end, _)) => format!("`{}…`", printable(&token[..end])),
+        None => format!("`{}`", printable(token)),
+    }
+}
+
 /// The length of the token that a text, which does not start with a space, starts with: a word, a
-/// number, a register, `:=` or one character.
+/// number, a register, `:=` or one character; of the empty text, 0.
 fn length(text: &str) -> usize {
     let first = text.chars().next().map_or(0, char::len_utf8);
     let in_word = |c: char| c.is_ascii_alphanumeric() || c == '_';
@@ -115,7 +125,13 @@ mod tests {
     use super::*;
 
     fn texts(line: &str) -> Vec<(&str, usize)> {
-        Tokens::new(line, 1).tokens.iter().map(|token| (token.text, token.column)).collect()
+        let mut tokens = Tokens::new(line, 1);
+        let mut texts = Vec::new();
+        while !tokens.is_empty() {
+            let column = tokens.expected("").column;
+            texts.push((tokens.take(), column));
+        }
+        texts
     }
 
     #[test]
@@ -137,5 +153,17 @@ mod tests {
         assert_eq!((tokens.expected("").column, tokens.expected("").found), (3, "`ü`".into()));
         let end = past.expected("a word");
         assert_eq!(end.to_string(), "line 7, column 4: expected a word, found the end of the line");
+    }
+
+    #[test]
+    fn what_is_found_is_short_and_can_be_printed() {
+        let found = |line: &str| Tokens::new(line, 1).expected("").found;
+        let word = "a".repeat(40);
+        assert_eq!(found(&word), format!("`{word}`"));
+        assert_eq!(found(&format!("{word}b")), format!("`{word}…`"));
+        assert_eq!(found(&format!("%{word}")), format!("`%{}…`", &word[1..]));
+        assert_eq!(found("\u{1b}[2J"), r"`\u{1b}`");
+        assert_eq!(found("\0"), r"`\u{0}`");
+        assert_eq!(found("\u{202e}nop"), r"`\u{202e}`");
     }
 }

@@ -7,6 +7,7 @@ use harness::random::Random;
 use harness::record::{decode_list, WORDS};
 use harness::roles::{role, Role, KINDS};
 use rudzaviks::record::Records;
+use rudzaviks::text::{Mistakes, ParseError};
 use rudzaviks::{text, Instruction, Settings};
 
 /// What a record's words of a role may be, the ends of their range among them.
@@ -114,32 +115,114 @@ fn mistyped(random: &mut Random, text: &str) -> String {
     typed.into_iter().collect()
 }
 
-#[test]
-fn a_mistake_has_a_place_in_the_text() {
-    let mut random = Random::new(73);
+/// That a mistake is at a place of the text, and that what it found stands there.
+fn has_its_place(error: &ParseError, text: &str) {
+    let line = text.lines().nth(error.line - 1).expect("a line of the text");
+    assert!((1..=line.chars().count() + 1).contains(&error.column), "{error}: {line}");
+    let quoted = error.found.trim_end_matches(" again").strip_prefix('`');
+    if let Some(found) = quoted.and_then(|found| found.strip_suffix('`')) {
+        let rest: String = line.chars().skip(error.column - 1).collect();
+        let is_there = text::printable(&rest).starts_with(found.trim_end_matches('…'));
+        assert!(is_there, "{error}: {line}");
+    }
+}
+
+/// Texts of random lists, mistyped so that they have mistakes, and these.
+fn each_mistyped(seed: u64, mut check: impl FnMut(&str, &Mistakes)) {
+    let mut random = Random::new(seed);
     let lists = how_many(20_000);
-    let mut mistakes = 0;
+    let mut with_mistakes = 0;
     for _ in 0..lists {
         let list = any_list(&mut random, 24);
         let text = text::print(&instructions(&list), &settings(&list));
         let typed = mistyped(&mut random, &text);
-        let Err(error) = text::parse(&typed) else { continue };
-        mistakes += 1;
-        let line = typed.lines().nth(error.line - 1).expect("a line of the text");
-        assert!((1..=line.chars().count() + 1).contains(&error.column), "{error}: {line}");
-        let quoted = error.found.strip_prefix('`').and_then(|found| found.strip_suffix('`'));
-        if let Some(found) = quoted {
-            let rest: String = line.chars().skip(error.column - 1).collect();
-            assert!(rest.starts_with(found), "{error}: {line}");
+        match text::parse_all(&typed, usize::MAX) {
+            Ok(parsed) => assert_eq!(text::parse(&typed), Ok(parsed)),
+            Err(mistakes) => {
+                with_mistakes += 1;
+                check(&typed, &mistakes);
+            }
         }
     }
-    assert!(mistakes > lists / 2, "{mistakes}");
+    assert!(with_mistakes > lists / 2, "{with_mistakes}");
+}
+
+#[test]
+fn mistakes_have_places_in_the_text() {
+    let mut in_two_lines = 0;
+    each_mistyped(73, |text, mistakes| {
+        mistakes.told.iter().for_each(|error| has_its_place(error, text));
+        in_two_lines += u64::from(mistakes.count > 1);
+    });
+    assert!(in_two_lines > how_many(20_000) / 20, "{in_two_lines}");
+}
+
+/// The places of the mistakes that the lines have by themselves.
+fn places_by_line(text: &str) -> Vec<(usize, usize)> {
+    let mut first = true;
+    let place = |(at, line): (usize, &str)| {
+        if line.split('#').next().is_none_or(|before| before.trim().is_empty()) {
+            return None;
+        }
+        let error = if std::mem::take(&mut first) {
+            text::parse(line).err()?
+        } else {
+            line.parse::<Instruction>().err()?
+        };
+        Some((at + 1, error.column))
+    };
+    text.lines().enumerate().filter_map(place).collect()
+}
+
+#[test]
+fn a_line_has_the_same_mistake_among_others() {
+    each_mistyped(74, |text, mistakes| {
+        let told: Vec<_> = mistakes.told.iter().map(|error| (error.line, error.column)).collect();
+        let by_line = places_by_line(text);
+        if by_line.is_empty() {
+            assert_eq!(mistakes.told[0].found, "nothing but comments", "{text}");
+        } else {
+            assert_eq!(told, by_line, "{text}");
+        }
+    });
+}
+
+#[test]
+fn both_ways_to_read_a_text_agree() {
+    each_mistyped(75, |text, all| {
+        assert_eq!(text::parse(text).as_ref(), Err(&all.told[0]));
+        assert_eq!(all.count, all.told.len());
+        for most in 0..=3 {
+            let some = text::parse_all(text, most).expect_err("mistakes");
+            assert_eq!((some.count, &some.told[..]), (all.count, &all.told[..most.min(all.count)]));
+        }
+    });
+    each_list(76, how_many(20_000), 100, |list| {
+        let text = text::print(&instructions(list), &settings(list));
+        let parsed = text::parse(&text).expect("a good text");
+        assert_eq!(text::parse_all(&text, 0), Ok(parsed));
+    });
+}
+
+/// If the time went with the square of the length, this would take minutes.
+#[test]
+fn a_line_of_megabytes_is_read() {
+    let count = 500_000;
+    let locations = vec!["Mem[3]"; count].join(", ");
+    let line = format!("Load Args [{locations}]; real, true");
+    let Ok(Instruction::LoadArgs { locs, .. }) = line.parse() else { panic!("LoadArgs") };
+    assert_eq!(locs.len(), count);
+    let open = format!("Load Args [{locations}; real, true").parse::<Instruction>().unwrap_err();
+    assert_eq!((open.column, open.found.as_str()), (11 + locations.len() + 1, "`;`"));
+    let word = "x".repeat(locations.len()).parse::<Instruction>().unwrap_err();
+    assert_eq!((word.column, word.found), (1, format!("`{}…`", "x".repeat(40))));
 }
 
 /// The lines of the description that show a kind: its name, and its text.
 #[test]
 fn the_description_shows_every_kind() {
-    let shown = text::FORM.lines().filter_map(|line| line.split_once("  "));
+    let (kinds, _) = text::FORM.split_once("\nThe operations").expect("they come after the kinds");
+    let shown = kinds.lines().filter_map(|line| line.split_once("  "));
     let shown = shown.filter(|(name, _)| name.starts_with(char::is_alphabetic));
     let mut kinds = Vec::new();
     for (name, texts) in shown {

@@ -1,17 +1,19 @@
 //! What a refusal means for the given list.
 
-use rudzaviks::file::MOST;
+use rudzaviks::file::Malformed;
 use rudzaviks::{Instruction, Refusal, Reg};
 
+use crate::colour::{Page, Style};
+use crate::counts::number_of;
 use crate::excerpt::excerpt;
-use crate::failure::Failure;
+use crate::failure::{Failure, HELP, REFUSED, WRONG};
 use crate::input::Input;
+use crate::json::{Fields, Json};
 
 /// The refusal, the line that it is about, and why.
 pub fn refused(input: &Input, refusal: Refusal) -> Failure {
     if refusal.number <= 4 {
-        let detail = whole_list(input, refusal.number);
-        return Failure::refused(format!("{}: {refusal}\n{detail}", input.name));
+        return without_line(&input.name, refusal, &whole_list(input, refusal.number));
     }
     let index = refusal.index as usize;
     let ins = input.records.instruction(index);
@@ -21,47 +23,113 @@ pub fn refused(input: &Input, refusal: Refusal) -> Failure {
         (Ok(ins), 9) => without_value(input, ins, index),
         (Ok(ins), 15) => past_branch(input, ins, index),
         (Ok(ins), 16) => without_label(input, ins),
-        _ => (None, "a complex value needs this cell and the next".to_string()),
+        _ => {
+            let last = AtFault { what: Named::Number(u32::MAX), after: "" };
+            (Some(last), "a complex value needs this cell and the next".to_string())
+        }
     };
     let line = input.line(index);
     let column = at_fault.and_then(|at_fault| column(&line, &at_fault));
-    let shown = excerpt(input.number(index), &line, column);
-    Failure::refused(format!("{}: {refusal}\n{shown}\n{detail}", input.place(index)))
+    let mut page = Page::default();
+    page.add(Style::Title, format!("{}: {refusal}", input.place(index, column)));
+    page.append(excerpt(input.number(index), &line, column));
+    page.append(Page::plain(&detail));
+    page.append(helpful(refusal));
+    let mut at = input.at(index);
+    // A file has no lines, and so no columns.
+    if let (Some(column), "line") = (column, input.unit()) {
+        at.push(("column", Json::number(column)));
+    }
+    Failure { status: REFUSED, page, fields: fields(refusal, at, &detail) }
 }
 
-/// A record that is no instruction.
-pub fn no_meaning(input: &Input, index: usize) -> Failure {
-    let number = if input.records.record(index)[0] > 20 { 5 } else { 6 };
-    refused(input, Refusal { number, index: index as u32 })
+/// A file of words that is none, and so is refused by question 3.
+pub fn refused_file(name: &str, why: &Malformed) -> Failure {
+    let mut failure = without_line(name, why.refusal(), &why.to_string());
+    failure.page.add(Style::Note, format!("{HELP}{WHOLE}"));
+    failure
 }
 
-/// Bytes that are no file.
-pub fn no_file(name: &str, bytes: usize, refusal: Refusal) -> Failure {
-    let detail = format!("a file is as long as its counts say, and each is at most {MOST}");
-    Failure::refused(format!("{name}: {refusal}\n{detail}; this one has {bytes} bytes"))
+/// What can be done about a file that is none.
+const WHOLE: &str = "copy it again, or write it from its text with `rudzaviks assemble`";
+
+/// The same where no question is put.
+pub fn no_file(name: &str, why: &Malformed) -> Failure {
+    Failure::new(WRONG, &format!("{name}: this is no file of words\n{why}\n{HELP}{WHOLE}"))
+}
+
+fn without_line(name: &str, refusal: Refusal, detail: &str) -> Failure {
+    let mut page = Page::default();
+    page.add(Style::Title, format!("{name}: {refusal}"));
+    page.append(Page::plain(detail));
+    page.append(helpful(refusal));
+    Failure { status: REFUSED, page, fields: fields(refusal, Fields::new(), detail) }
+}
+
+fn fields(refusal: Refusal, at: Fields, detail: &str) -> Fields {
+    let question = ("question", Json::number(refusal.number));
+    let why = [("reason", Json::text(refusal.reason())), ("detail", Json::text(detail))];
+    let help = help(refusal).map(|help| ("help", Json::text(help)));
+    vec![(
+        "refusal",
+        Json::Object([question].into_iter().chain(at).chain(why).chain(help).collect()),
+    )]
+}
+
+fn helpful(refusal: Refusal) -> Page {
+    let mut page = Page::default();
+    if let Some(help) = help(refusal) {
+        page.add(Style::Note, format!("{HELP}{help}"));
+    }
+    page
+}
+
+/// What can be done about a refusal.
+fn help(refusal: Refusal) -> Option<&'static str> {
+    match refusal.number {
+        1 => Some("set count_regs to the machine's registers, which are at most 64"),
+        2 => Some("set args to at most 65535"),
+        5 | 6 => Some("`rudzaviks disassemble` shows all records, and which are no instructions"),
+        7 => Some("use a register that there is, or set count_regs to more"),
+        8 => Some("use a cell before the last of its space"),
+        9 => Some("write it first; what is needed past a label or a call goes through a cell"),
+        15 => Some("save it to a cell before the branch, and load it again after it"),
+        16 => Some("add a label with this number, or jump to one that the list has"),
+        _ => None,
+    }
 }
 
 fn whole_list(input: &Input, number: u32) -> String {
-    let (records, pairs) = (input.records.len(), input.records.table.len() / 2);
     match number {
         1 => format!("count_regs is {}", input.settings.count_regs),
         2 => format!("args is {}", input.settings.args),
-        _ => format!(
-            "it has {records} records and {pairs} pairs; a file holds {MOST} of each, and of a \
-             text 65536 and 32768 are taken"
-        ),
+        _ => {
+            let records = number_of(input.records.len(), "instruction");
+            let pairs = number_of(input.records.table.len() / 2, "location");
+            format!("it has {records}, and {pairs} of LoadArgs; up to 65536 and 32768 are taken")
+        }
     }
 }
 
 /// What is at fault in a line, and what stands before it, if the line has that.
-type AtFault = (String, &'static str);
+struct AtFault {
+    what: Named,
+    after: &'static str,
+}
+
+/// A register, or a number that is none.
+#[derive(Clone, Copy, PartialEq)]
+enum Named {
+    Reg(Reg),
+    Number(u32),
+}
 
 fn written(reg: Reg) -> AtFault {
-    (reg.to_string(), "")
+    AtFault { what: Named::Reg(reg), after: "" }
 }
 
 fn read(reg: Reg) -> AtFault {
-    (reg.to_string(), ":=")
+    AtFault { what: Named::Reg(reg), after: ":=" }
 }
 
 fn is_general(reg: &Reg) -> bool {
@@ -78,6 +146,7 @@ fn out_of_range(input: &Input, ins: &Instruction) -> (Option<AtFault>, String) {
     };
     let detail = match count {
         0 => "count_regs is 0: there are no general registers".to_string(),
+        1 => "count_regs is 1: the one general register is %0".to_string(),
         _ => format!("count_regs is {count}: the general registers are %0 to %{}", count - 1),
     };
     (at_fault, detail)
@@ -91,10 +160,13 @@ fn without_value(input: &Input, ins: &Instruction, index: usize) -> (Option<AtFa
     let mut general = ins.sources().into_iter().filter(is_general);
     let reg = general.find(|reg| !has_value(reg)).expect("a register that question 9 is about");
     let at = |at: usize| place(input, at);
+    let instruction = |at: usize| input.instruction(at);
     let detail = match (last_write(input, reg, index).map(at), forgetting.map(at)) {
-        (Some(written), Some(forgetting)) => format!(
-            "{reg} was written at {written}, but a label or call, at {forgetting}, forgets it"
-        ),
+        (Some(written), Some(forgotten)) => {
+            let is_call = matches!(forgetting.map(instruction), Some(Instruction::Call { .. }));
+            let what = if is_call { "call" } else { "label" };
+            format!("{reg} was written at {written}, but the {what} at {forgotten} forgets it")
+        }
         _ => format!("nothing before it writes {reg}"),
     };
     (Some(read(reg)), detail)
@@ -125,7 +197,7 @@ fn without_label(input: &Input, ins: &Instruction) -> (Option<AtFault>, String) 
         None => "the list has no labels".to_string(),
         Some(_) => format!("the list has no label {label}; `survey` shows those that it has"),
     };
-    (Some((label.to_string(), "goto")), detail)
+    (Some(AtFault { what: Named::Number(label), after: "goto" }), detail)
 }
 
 fn place(input: &Input, index: usize) -> String {
@@ -143,11 +215,35 @@ fn last(input: &Input, index: usize, wanted: impl Fn(&Instruction) -> bool) -> O
 }
 
 /// The column of what is at fault in a line: after what stands before it, if the line has that.
-fn column(line: &str, (name, before): &AtFault) -> Option<usize> {
-    let start = line.find(before).map_or(0, |at| at + before.len());
-    let ends = |at: usize| !line[at + name.len()..].starts_with(|c: char| c.is_ascii_digit());
-    let at = line[start..].match_indices(name).map(|(at, _)| start + at).find(|at| ends(*at))?;
+fn column(line: &str, at_fault: &AtFault) -> Option<usize> {
+    let code = line.split('#').next().unwrap_or_default();
+    let start = code.find(at_fault.after).map_or(0, |at| at + at_fault.after.len());
+    let mut words = words(code).filter(|(at, _)| *at >= start);
+    let (at, _) = words.find(|(_, word)| meaning(word) == Some(at_fault.what))?;
     Some(line[..at].chars().count() + 1)
+}
+
+/// The registers, numbers and names in a line, and where each starts.
+fn words(code: &str) -> impl Iterator<Item = (usize, &str)> {
+    let in_word = |c: char| c.is_ascii_alphanumeric() || c == '$' || c == '_';
+    let mut at = 0;
+    std::iter::from_fn(move || {
+        at += code[at..].find(|c| in_word(c) || c == '%')?;
+        let start = at;
+        let sign = usize::from(code[at..].starts_with('%'));
+        let rest = &code[at + sign..];
+        at += sign + rest.find(|c| !in_word(c)).unwrap_or(rest.len());
+        Some((start, &code[start..at]))
+    })
+}
+
+/// What a word names: however it is written, with zeros before it or without.
+fn meaning(word: &str) -> Option<Named> {
+    if let Ok(number) = word.parse() {
+        return Some(Named::Number(number));
+    }
+    let number = word.strip_prefix('%')?.parse().ok()?;
+    Some(Named::Reg(Reg::Gen(number)))
 }
 
 #[cfg(test)]
@@ -162,12 +258,18 @@ mod tests {
         assert_eq!(column(line, &read(Reg::Gen(12))), Some(9));
         assert_eq!(column(line, &read(Reg::Gen(2))), None);
         assert_eq!(column("if not %3 goto 7", &read(Reg::Gen(3))), Some(8));
+        assert_eq!(column("if %3 goto 7 # x := %3", &read(Reg::Gen(3))), Some(4));
+        assert_eq!(column("%1:=%01 Plus %00", &read(Reg::Gen(0))), Some(14));
     }
 
     #[test]
-    fn a_label_is_found_in_its_line() {
-        let label = |number: u32| (number.to_string(), "goto");
+    fn a_number_is_found_in_its_line() {
+        let label = |number| AtFault { what: Named::Number(number), after: "goto" };
         assert_eq!(column("if %7 goto 7", &label(7)), Some(12));
         assert_eq!(column("  goto 77 # 7", &label(77)), Some(8));
+        assert_eq!(column("if %0 goto 08", &label(8)), Some(12));
+        let last = AtFault { what: Named::Number(u32::MAX), after: "" };
+        assert_eq!(column("(%0 + %1*im) := Mem[4294967295]", &last), Some(21));
+        assert_eq!(column("Stack[4294967295] := (%0 + %1*im)", &last), Some(7));
     }
 }

@@ -2,13 +2,35 @@
 
 use rudzaviks::{Label, Place, Reg, Settings, Survey};
 
+use crate::colour::Page;
+use crate::counts::number_of;
 use crate::input::Input;
+use crate::json::{Fields, Json};
 use crate::wrap::{wrap, WIDTH};
 
-pub fn show(input: &Input, survey: &Survey) -> String {
+pub fn show(input: &Input, survey: &Survey) -> Page {
     let registers = wrap(&registers(survey, &input.settings), WIDTH).join("\n");
     let settings = input.settings;
-    format!("{settings}\n\n{registers}\n{}", labels(survey, input))
+    Page::plain(&format!("{settings}\n\n{registers}\n{}", labels(survey, input)))
+}
+
+/// The survey, for programs.
+pub fn fields(input: &Input, survey: &Survey) -> Fields {
+    let labels = survey.labels.iter().map(|label| {
+        let number = ("number", Json::number(label.number));
+        let place = match label.place {
+            Place::At { last, times } => {
+                vec![("last", Json::Object(input.at(last))), ("times", Json::number(times))]
+            }
+            Place::Absent { jump } => vec![("jump", Json::Object(input.at(jump)))],
+        };
+        Json::Object([number].into_iter().chain(place).collect())
+    });
+    vec![
+        ("registers", Json::list(survey.registers.iter().map(Json::text))),
+        ("count", Json::number(survey.count)),
+        ("labels", Json::list(labels)),
+    ]
 }
 
 fn registers(survey: &Survey, settings: &Settings) -> String {
@@ -19,9 +41,8 @@ fn registers(survey: &Survey, settings: &Settings) -> String {
     if count == 0 {
         return "no registers used".to_string();
     }
-    let plural = if count_regs == 1 { "" } else { "s" };
     let names: Vec<String> = survey.registers.iter().map(Reg::to_string).collect();
-    format!("{count} of {count_regs} register{plural} used: {}", names.join(" "))
+    format!("{count} of {} used: {}", number_of(count_regs, "register"), names.join(" "))
 }
 
 fn labels(survey: &Survey, input: &Input) -> String {
