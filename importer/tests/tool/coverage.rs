@@ -13,7 +13,7 @@ Mem[0] := %$
 ";
 
 const NOTE: &str = "\
-note: no theorem about runs covers lines 4, 5 and 6 (Call, LoadArgs, SaveArgs): that the shortened
+note: no theorem about runs covers lines 4, 5 and 6 (LoadArgs, Call, SaveArgs): that the shortened
   list computes the same is not proved
 ";
 

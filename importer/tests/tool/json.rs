@@ -291,6 +291,7 @@ fn a_refusal_has_its_line_and_column() {
     let refusal = short.at("lists/0/refusal");
     assert_eq!(refusal.number("question"), 3);
     assert!(refusal.text("detail").starts_with("it has 12 bytes, and a file has at least 28"));
+    assert!(refusal.text("help").contains("`rudzaviks assemble`"));
     let strict =
         run(&["check", "--json", "--strict", "-"], b"settings count_regs=1\ncall 7; n = 0");
     let strict = parsed(strict.out());
@@ -432,8 +433,15 @@ fn every_field_of_a_failure_is_described() {
     long.resize(28 + 600 * 32, 0);
     let lines = "instructions instructions/record instructions/text too_long";
     fields_are(&["disassemble", "-"], &long, true, lines);
-    let total = "counts failed lists lists_uncovered refused";
-    let document = document(&["reduce", SAMPLE]).1;
-    let Value::Object(fields) = document.at("total") else { panic!("{document:?}") };
-    assert_eq!(fields.keys().map(String::as_str).collect::<Vec<_>>().join(" "), total);
+    for (command, total) in [
+        ("reduce", "counts failed lists lists_uncovered refused"),
+        ("check", "failed lists lists_uncovered refused"),
+        ("survey", "failed lists refused"),
+    ] {
+        let document = document(&[command, SAMPLE]).1;
+        let Value::Object(fields) = document.at("total") else { panic!("{document:?}") };
+        assert_eq!(fields.keys().map(String::as_str).collect::<Vec<_>>().join(" "), total);
+    }
+    let call = run(&["check", "--json", "-"], call).succeeds();
+    assert_eq!(parsed(call.out()).number("total/lists_uncovered"), 1);
 }

@@ -233,6 +233,10 @@ fn what_is_replaced_stays_what_it_was() {
     assert!(fs::symlink_metadata(folder.join("link.txt")).expect("a link").is_symlink());
     let written = run_in(&folder, &["disassemble", "volume.txt"], b"").succeeds();
     assert_eq!(text_in(&folder, "branch.txt"), written.out());
+    // The longest name that a file may have.
+    let longest = "x".repeat(255);
+    run_in(&folder, &["disassemble", "-o", &longest, "volume.txt"], b"").succeeds();
+    assert_eq!(text_in(&folder, &longest), written.out());
 }
 
 /// The tool with such a limit, on a list so many times.
@@ -269,21 +273,71 @@ fn a_small_stack_is_enough() {
     limited("-s 512", "check --jobs 1", &list, 2).succeeds();
 }
 
-/// Where nobody reads any more, no more is done.
-#[test]
-fn a_reader_that_has_gone_ends_it() {
+/// What a run leaves of many lists in a folder, and its status, where nobody reads what it shows.
+fn unread(words: &[&str]) -> (Option<i32>, usize) {
     let folder = samples();
     fs::create_dir(folder.join("out")).expect("a folder");
-    let lists: Vec<String> = (0..2_000).map(|at| format!("{at}.txt")).collect();
+    let lists: Vec<String> = (0..500).map(|at| format!("{at}.txt")).collect();
     for list in &lists {
         fs::copy(folder.join("volume.txt"), folder.join(list)).expect("a copy");
     }
     let mut tool = Command::new(TOOL);
-    tool.args(["reduce", "--stats", "-j1", "-o", "out"]).args(&lists).current_dir(&folder);
-    let mut child = tool.stdout(Stdio::piped()).stderr(Stdio::piped()).spawn().expect("it starts");
+    tool.args(words).args(["past_branch.txt", "volume.txt"]).args(&lists).current_dir(&folder);
+    let mut child = tool.stdout(Stdio::piped()).stderr(Stdio::null()).spawn().expect("it starts");
     drop(child.stdout.take());
-    let output = child.wait_with_output().expect("it ends");
-    assert_eq!((output.status.code(), output.stderr.len()), (Some(0), 0));
-    let done = fs::read_dir(folder.join("out")).expect("a folder").count();
-    assert!(done < 1_000, "{done} lists were done after nobody read");
+    let status = child.wait().expect("it ends").code();
+    (status, fs::read_dir(folder.join("out")).expect("a folder").count())
+}
+
+/// Where nobody reads any more, no more is shown; but files are written all the same.
+#[test]
+fn a_reader_that_has_gone_ends_what_is_shown() {
+    assert_eq!(unread(&["reduce", "--stats", "-j1"]), (Some(1), 0));
+    assert_eq!(unread(&["reduce", "--stats", "-j1", "-o", "out"]), (Some(1), 501));
+    assert_eq!(unread(&["pressure", "--svg", "out"]), (Some(1), 501));
+}
+
+/// Standard output under another name is written to as it is, with what was there.
+#[test]
+fn standard_output_by_its_name_is_no_file_to_replace() {
+    let folder = samples();
+    let line = format!("echo first >out; '{TOOL}' reduce -o /dev/stdout two_part.txt >>out");
+    let mut shell = Command::new("sh");
+    shell.args(["-c", &line]).current_dir(&folder);
+    output_of(shell, b"").succeeds();
+    let plain = run_in(&folder, &["reduce", "--plain", "two_part.txt"], b"").succeeds();
+    assert_eq!(text_in(&folder, "out"), format!("first\n{}", plain.out()));
+}
+
+/// The list on standard input is a file too.
+#[test]
+fn a_list_on_standard_input_is_not_written_over() {
+    let folder = samples();
+    let before = text_in(&folder, "volume.txt");
+    for words in ["reduce -o volume.txt -", "pressure --svg volume.txt -"] {
+        let mut shell = Command::new("sh");
+        shell.args(["-c", &format!("'{TOOL}' {words} <volume.txt")]).current_dir(&folder);
+        output_of(shell, b"").fails(2, &["volume.txt is one of the lists: it would be lost"]);
+    }
+    assert_eq!(text_in(&folder, "volume.txt"), before);
+}
+
+/// A link to a file that is not there has it made; one to itself has no end.
+#[test]
+fn links_to_nothing_are_followed() {
+    let folder = samples();
+    symlink("new.txt", folder.join("link.txt")).expect("a link");
+    symlink("loop.txt", folder.join("loop.txt")).expect("a link");
+    run_in(&folder, &["disassemble", "-o", "link.txt", "volume.txt"], b"").succeeds();
+    assert!(text_in(&folder, "new.txt").starts_with("settings "));
+    let words = ["disassemble", "-o", "loop.txt", "volume.txt"];
+    run_in(&folder, &words, b"").fails(2, &["can't write loop.txt: "]);
+    for link in ["link.txt", "loop.txt"] {
+        assert!(fs::symlink_metadata(folder.join(link)).expect("a link").is_symlink(), "{link}");
+    }
+    fs::create_dir(folder.join("out")).expect("a folder");
+    fs::write(folder.join("out/branch.txt"), "").expect("it is written");
+    symlink("branch.txt", folder.join("out/volume.txt")).expect("a link");
+    let both = ["disassemble", "-o", "out", "volume.txt", "branch.txt"];
+    run_in(&folder, &both, b"").fails(2, &["volume.txt and branch.txt would both go to"]);
 }

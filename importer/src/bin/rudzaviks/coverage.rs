@@ -40,12 +40,14 @@ pub fn note(input: &Input, start: &str) -> Option<Page> {
     Some(page)
 }
 
-/// The kinds of these instructions, each once.
+/// The kinds of these instructions, each once, in the order in which they come.
 fn kinds(input: &Input, indexes: &[usize]) -> Vec<&'static str> {
-    let kinds = indexes.iter().map(|index| kind(&input.instruction(*index)));
-    let mut kinds: Vec<&str> = kinds.collect();
-    kinds.sort_unstable();
-    kinds.dedup();
+    let mut kinds = Vec::new();
+    for kind in indexes.iter().map(|index| kind(&input.instruction(*index))) {
+        if !kinds.contains(&kind) {
+            kinds.push(kind);
+        }
+    }
     kinds
 }
 

@@ -13,7 +13,8 @@ use crate::json::{Fields, Json};
 /// The refusal, the line that it is about, and why.
 pub fn refused(input: &Input, refusal: Refusal) -> Failure {
     if refusal.number <= 4 {
-        return without_line(&input.name, refusal, &whole_list(input, refusal.number));
+        let detail = whole_list(input, refusal.number);
+        return without_line(&input.name, refusal, &detail, help(refusal));
     }
     let index = refusal.index as usize;
     let ins = input.records.instruction(index);
@@ -34,20 +35,18 @@ pub fn refused(input: &Input, refusal: Refusal) -> Failure {
     page.add(Style::Title, format!("{}: {refusal}", input.place(index, column)));
     page.append(excerpt(input.number(index), &line, column));
     page.append(Page::plain(&detail));
-    page.append(helpful(refusal));
+    page.append(helpful(help(refusal)));
     let mut at = input.at(index);
     // A file has no lines, and so no columns.
     if let (Some(column), "line") = (column, input.unit()) {
         at.push(("column", Json::number(column)));
     }
-    Failure { status: REFUSED, page, fields: fields(refusal, at, &detail) }
+    Failure { status: REFUSED, page, fields: fields(refusal, at, &detail, help(refusal)) }
 }
 
 /// A file of words that is none, and so is refused by question 3.
 pub fn refused_file(name: &str, why: &Malformed) -> Failure {
-    let mut failure = without_line(name, why.refusal(), &why.to_string());
-    failure.page.add(Style::Note, format!("{HELP}{WHOLE}"));
-    failure
+    without_line(name, why.refusal(), &why.to_string(), Some(WHOLE))
 }
 
 /// What can be done about a file that is none.
@@ -58,27 +57,27 @@ pub fn no_file(name: &str, why: &Malformed) -> Failure {
     Failure::new(WRONG, &format!("{name}: this is no file of words\n{why}\n{HELP}{WHOLE}"))
 }
 
-fn without_line(name: &str, refusal: Refusal, detail: &str) -> Failure {
+fn without_line(name: &str, refusal: Refusal, detail: &str, help: Option<&str>) -> Failure {
     let mut page = Page::default();
     page.add(Style::Title, format!("{name}: {refusal}"));
     page.append(Page::plain(detail));
-    page.append(helpful(refusal));
-    Failure { status: REFUSED, page, fields: fields(refusal, Fields::new(), detail) }
+    page.append(helpful(help));
+    Failure { status: REFUSED, page, fields: fields(refusal, Fields::new(), detail, help) }
 }
 
-fn fields(refusal: Refusal, at: Fields, detail: &str) -> Fields {
+fn fields(refusal: Refusal, at: Fields, detail: &str, help: Option<&str>) -> Fields {
     let question = ("question", Json::number(refusal.number));
     let why = [("reason", Json::text(refusal.reason())), ("detail", Json::text(detail))];
-    let help = help(refusal).map(|help| ("help", Json::text(help)));
+    let help = help.map(|help| ("help", Json::text(help)));
     vec![(
         "refusal",
         Json::Object([question].into_iter().chain(at).chain(why).chain(help).collect()),
     )]
 }
 
-fn helpful(refusal: Refusal) -> Page {
+fn helpful(help: Option<&str>) -> Page {
     let mut page = Page::default();
-    if let Some(help) = help(refusal) {
+    if let Some(help) = help {
         page.add(Style::Note, format!("{HELP}{help}"));
     }
     page

@@ -44,6 +44,10 @@ impl Failure {
         Failure { status: 0, page: Page::default(), fields: Fields::new() }
     }
 
+    pub fn is_silent(&self) -> bool {
+        self.status == 0
+    }
+
     /// Wrong usage, or what can't be read or written.
     pub fn wrong(message: String) -> Failure {
         Failure::new(WRONG, &message)

@@ -37,12 +37,19 @@ pub fn run(arguments: &Arguments) -> Result<u8, Failure> {
     let mut total = Total::default();
     let shown = |at| manner.list(at, report::of(arguments, outs.places(arguments, at)));
     begin(arguments)?;
-    workers::in_order(arguments.files.len(), jobs, shown, |shown| {
+    // Where files are written, the work goes on to its end, whoever reads what is shown.
+    let goes_on = arguments.out.is_some() || arguments.svg.is_some();
+    let done = workers::in_order(arguments.files.len(), jobs, shown, |shown| {
         total.add(&shown);
-        write(shown)
-    })?;
-    end(&manner, &total)?;
-    Ok(total.status)
+        match write(shown) {
+            Err(failure) if failure.is_silent() && goes_on => Ok(()),
+            written => written,
+        }
+    });
+    match done.and_then(|()| end(&manner, &total)) {
+        Err(failure) if !failure.is_silent() => Err(failure),
+        _ => Ok(total.status),
+    }
 }
 
 /// Where what is made of the lists is written.
@@ -88,7 +95,10 @@ fn write(shown: Shown) -> Result<(), Failure> {
 fn end(manner: &Manner, total: &Total) -> Result<(), Failure> {
     let arguments = manner.arguments;
     let text = if arguments.json {
-        format!("  ],\n  \"total\": {}\n}}\n", Json::Object(total.fields()).show("  "))
+        format!(
+            "  ],\n  \"total\": {}\n}}\n",
+            Json::Object(total.fields(arguments.command)).show("  ")
+        )
     } else if manner.is_many() {
         manner.page(&total.page(arguments))
     } else {
@@ -142,14 +152,12 @@ impl Total {
         page
     }
 
-    fn fields(&self) -> Fields {
-        let numbers = [
-            ("lists", self.lists),
-            ("refused", self.refused),
-            ("failed", self.failed),
-            ("lists_uncovered", self.uncovered),
-        ];
+    fn fields(&self, command: Command) -> Fields {
+        let numbers = [("lists", self.lists), ("refused", self.refused), ("failed", self.failed)];
+        let asked = matches!(command, Command::Reduce | Command::Check);
+        let uncovered = asked.then(|| ("lists_uncovered", Json::number(self.uncovered)));
         let sums = self.sums.iter().map(|sums| ("counts", Json::Object(sums.fields())));
-        numbers.map(|(name, number)| (name, Json::number(number))).into_iter().chain(sums).collect()
+        let numbers = numbers.map(|(name, number)| (name, Json::number(number)));
+        numbers.into_iter().chain(uncovered).chain(sums).collect()
     }
 }

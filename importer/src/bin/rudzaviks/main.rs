@@ -19,6 +19,7 @@ mod disassembly;
 mod excerpt;
 mod explain;
 mod failure;
+mod files;
 mod help;
 mod input;
 mod json;

@@ -2,11 +2,13 @@
 
 use std::fs::{self, Metadata, OpenOptions};
 use std::io::{self, ErrorKind, IsTerminal, Write};
+use std::os::unix::fs::{chown, MetadataExt};
 use std::path::{Path, PathBuf};
 use std::process;
+use std::sync::atomic::{AtomicUsize, Ordering};
 
 use crate::failure::Failure;
-use crate::input;
+use crate::{files, input};
 
 /// Writes to standard output. A reader that has had enough ends the run, and is no failure.
 pub fn send(bytes: &[u8]) -> Result<(), Failure> {
@@ -34,12 +36,17 @@ pub fn tell(text: &str) {
 
 /// Writes a file, whole or not at all: what was there stays if it can't be written.
 pub fn write(bytes: &[u8], path: &Path) -> Result<(), Failure> {
+    let there = fs::metadata(path).ok();
+    if there.as_ref().is_some_and(|there| files::identity(there) == files::of(io::stdout())) {
+        // (such as /dev/stdout, of which other output is a part)
+        return send(bytes);
+    }
     // (a link stays one, and what it leads to is written)
-    let place = fs::canonicalize(path).unwrap_or_else(|_| path.to_path_buf());
-    let written = match fs::metadata(&place) {
-        // A terminal, a pipe or a disk is written to as it is.
-        Ok(there) if !there.is_file() => fs::write(&place, bytes),
-        there => replace(bytes, &place, there.ok()),
+    let written = match (fs::canonicalize(path), there) {
+        (Ok(place), Some(there)) if there.is_file() => replace(bytes, &place, Some(there)),
+        (Err(_), None) if !path.is_symlink() => replace(bytes, path, None),
+        // What is no file, as a terminal or a disk, and the end of a link that is to be made.
+        _ => fs::write(path, bytes),
     };
     written.map_err(|error| cannot_write(&input::name_of_file(path), error))
 }
@@ -51,22 +58,30 @@ fn replace(bytes: &[u8], place: &Path, there: Option<Metadata>) -> io::Result<()
         OpenOptions::new().write(true).open(place)?;
     }
     let beside = beside(place);
-    let permissions = there.map(|there| there.permissions());
     let written = fs::write(&beside, bytes)
-        .and_then(|()| permissions.map_or(Ok(()), |old| fs::set_permissions(&beside, old)))
+        .and_then(|()| there.as_ref().map_or(Ok(()), |there| liken(&beside, there)))
         .and_then(|()| fs::rename(&beside, place));
-    if written.is_err() {
-        // Half a file is of no use, and its failure is told already.
-        let _ = fs::remove_file(&beside);
+    let Err(error) = written else { return Ok(()) };
+    // Half a file is of no use, and its failure is told already.
+    let _ = fs::remove_file(&beside);
+    match error.kind() {
+        // Where no file may be put beside it, or none of its owner, it is written as it is.
+        ErrorKind::PermissionDenied if there.is_some() => fs::write(place, bytes),
+        _ => Err(error),
     }
-    written
 }
 
-/// A name beside a place that no other run takes.
+/// Gives a file the owner and the rights of one that was there.
+fn liken(file: &Path, there: &Metadata) -> io::Result<()> {
+    chown(file, Some(there.uid()), Some(there.gid()))?;
+    fs::set_permissions(file, there.permissions())
+}
+
+/// A name beside a place that no other list and no other run takes.
 fn beside(place: &Path) -> PathBuf {
-    let mut name = place.file_name().unwrap_or_default().to_os_string();
-    name.push(format!(".{}.part", process::id()));
-    place.with_file_name(name)
+    static WRITTEN: AtomicUsize = AtomicUsize::new(0);
+    let number = WRITTEN.fetch_add(1, Ordering::Relaxed);
+    place.with_file_name(format!(".rudzaviks.{}.{number}.part", process::id()))
 }
 
 fn cannot_write(name: &str, error: io::Error) -> Failure {

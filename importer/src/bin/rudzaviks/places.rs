@@ -2,12 +2,11 @@
 
 use std::collections::{HashMap, HashSet};
 use std::ffi::{OsStr, OsString};
-use std::fs::{self, Metadata};
-use std::os::unix::fs::MetadataExt;
 use std::path::{Path, PathBuf};
+use std::{fs, io};
 
 use crate::failure::Failure;
-use crate::input;
+use crate::{files, input};
 
 /// The place for each list under OUT: OUT itself for one list, and in the folder OUT a file named as
 /// the list is, with this extension. None is one of the lists.
@@ -33,7 +32,9 @@ fn in_folder(files: &[OsString], out: &Path, extension: &str) -> Result<Vec<Path
     let mut places = Vec::new();
     for file in files {
         let place = out.join(own_name(file, extension)?);
-        if let Some(other) = makers.insert(place.clone(), file) {
+        // (by one name of it, of which links may give it more)
+        let one = fs::canonicalize(&place).unwrap_or_else(|_| place.clone());
+        if let Some(other) = makers.insert(one, file) {
             let [one, other] = [other, file].map(|file| input::name(file));
             let place = input::name_of_file(&place);
             return Err(failure(&format!("{one} and {other} would both go to {place}")));
@@ -45,12 +46,12 @@ fn in_folder(files: &[OsString], out: &Path, extension: &str) -> Result<Vec<Path
 
 /// Refuses places that are lists which are read, by whatever name: these would be lost.
 fn not_read(files: &[OsString], places: &[PathBuf]) -> Result<(), Failure> {
-    let identity = |path: &Path| {
-        let there = fs::metadata(path).ok().filter(Metadata::is_file)?;
-        Some((there.dev(), there.ino()))
-    };
-    let read: HashSet<(u64, u64)> =
-        files.iter().filter_map(|file| identity(Path::new(file))).collect();
+    let identity = |path: &Path| files::identity(&fs::metadata(path).ok()?);
+    let read = files.iter().filter_map(|file| match file.to_str() {
+        Some("-") => files::of(io::stdin()),
+        _ => identity(Path::new(file)),
+    });
+    let read: HashSet<(u64, u64)> = read.collect();
     let lost = places.iter().find(|place| identity(place).is_some_and(|id| read.contains(&id)));
     lost.map_or(Ok(()), |place| {
         let place = input::name_of_file(place);
