@@ -1,18 +1,13 @@
 //! The C header, by a C program that is compiled with it, linked to the library, and run.
 
-use std::io::{stderr, Write};
 use std::path::Path;
 use std::process::{Command, Output};
+
+use harness::programs::program;
 
 const STRICT: [&str; 4] = ["-Wall", "-Wextra", "-Werror", "-pedantic"];
 
 const MANIFEST: &str = env!("CARGO_MANIFEST_DIR");
-
-/// The first of the compilers that is here.
-fn compiler(names: &[&'static str]) -> Option<&'static str> {
-    let is_here = |name: &&str| Command::new(name).arg("--version").output().is_ok();
-    names.iter().copied().find(is_here)
-}
 
 fn succeeds(output: Output, what: &str) {
     let text =
@@ -36,23 +31,16 @@ fn compile_and_run(compiler: &str, language: &str, standard: &str) {
     succeeds(Command::new(&program).output().expect("a program that runs"), standard);
 }
 
-/// Tells even where the tests' own text is not shown.
-fn skipped(language: &str) {
-    writeln!(stderr(), "no {language} compiler: the header is not tried in it").expect("a note");
-}
-
 #[test]
 fn case_b_in_c() {
-    match compiler(&["cc", "gcc", "clang"]) {
-        Some(compiler) => compile_and_run(compiler, "c", "c99"),
-        None => skipped("C"),
+    if let Some(compiler) = program(&["cc", "gcc", "clang"], "the header in C") {
+        compile_and_run(compiler, "c", "c99");
     }
 }
 
 #[test]
 fn case_b_in_cpp() {
-    match compiler(&["g++", "c++"]) {
-        Some(compiler) => compile_and_run(compiler, "c++", "c++11"),
-        None => skipped("C++"),
+    if let Some(compiler) = program(&["g++", "c++"], "the header in C++") {
+        compile_and_run(compiler, "c++", "c++11");
     }
 }

@@ -5,6 +5,8 @@ use std::io::{stderr, Write};
 use std::path::{Path, PathBuf};
 use std::process::Command;
 
+use harness::programs;
+
 const README: &str = include_str!("../../README.md");
 
 const MANIFEST: &str = env!("CARGO_MANIFEST_DIR");
@@ -106,10 +108,8 @@ fn compile(line: &str, compiler: &str, folder: &Path) -> Command {
 #[test]
 fn the_c_program_prints_what_the_readme_shows() {
     let section = section("From C");
-    let is_here = |name: &&str| Command::new(name).arg("--version").output().is_ok();
-    let Some(compiler) = ["cc", "gcc", "clang"].into_iter().find(is_here) else {
-        return note("no C compiler: the README's C program is not tried");
-    };
+    let compilers = ["cc", "gcc", "clang"];
+    let Some(compiler) = programs::program(&compilers, "the README's C program") else { return };
     let (program, line) = (block(section, "c"), block(section, "sh"));
     let run = |name: &str, program: &str| {
         let folder = folder(name);

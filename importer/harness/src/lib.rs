@@ -14,6 +14,7 @@ pub mod lists;
 pub mod mended;
 pub mod panics;
 pub mod profile;
+pub mod programs;
 pub mod questions;
 pub mod random;
 pub mod record;

@@ -130,18 +130,25 @@ fn damaged(random: &mut Random, list: &List) -> Vec<u8> {
     file
 }
 
+/// That such bytes are a file to both or to none, and that enough of them are, and are none for each
+/// reason.
+fn agree(seed: u64, count: u64, files: u64, mut bytes: impl FnMut(&mut Random) -> Vec<u8>) {
+    let mut random = Random::new(seed);
+    let mut tally = Tally::default();
+    for _ in 0..count {
+        tally.count(&bytes(&mut random));
+    }
+    assert!(tally.files > files, "{}", tally.files);
+    assert!(tally.none.iter().all(|none| *none > count / 100), "{:?}", tally.none);
+}
+
 #[test]
 fn damaged_files_are_files_to_both_or_to_none() {
-    let mut random = Random::new(84);
-    let mut tally = Tally::default();
-    let lists = how_many(20_000);
-    for _ in 0..lists {
-        let list = any_list(&mut random, 60);
-        let file = damaged(&mut random, &list);
-        tally.count(&file);
-    }
-    assert!(tally.files > lists / 10, "{}", tally.files);
-    assert!(tally.none.iter().all(|none| *none > lists / 100), "{:?}", tally.none);
+    let count = how_many(20_000);
+    agree(84, count, count / 10, |random| {
+        let list = any_list(random, 60);
+        damaged(random, &list)
+    });
 }
 
 /// Random bytes, three in four with counts as a file has them, as far as there is room.
@@ -163,14 +170,8 @@ fn any_bytes(random: &mut Random) -> Vec<u8> {
 
 #[test]
 fn random_bytes_are_files_to_both_or_to_none() {
-    let mut random = Random::new(85);
-    let mut tally = Tally::default();
-    let files = how_many(100_000);
-    for _ in 0..files {
-        tally.count(&any_bytes(&mut random));
-    }
-    assert!(tally.files > files / 100, "{}", tally.files);
-    assert!(tally.none.iter().all(|none| *none > files / 100), "{:?}", tally.none);
+    let count = how_many(100_000);
+    agree(85, count, count / 100, any_bytes);
 }
 
 #[test]

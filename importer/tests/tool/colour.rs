@@ -2,7 +2,9 @@
 
 use std::process::Command;
 
-use crate::support::{output_of, program, run, run_on, PAST_BRANCH, SAMPLE, TOOL};
+use harness::programs::program;
+
+use crate::support::{output_of, run, run_on, PAST_BRANCH, SAMPLE, TOOL};
 
 #[test]
 fn what_goes_to_a_pipe_has_no_colours() {

@@ -3,7 +3,9 @@
 use std::fs;
 use std::process::Command;
 
-use crate::support::{folder, output_of, program, run, COMMANDS};
+use harness::programs::program;
+
+use crate::support::{folder, output_of, run, COMMANDS};
 
 const HELP: [&str; 2] = ["-h", "--help"];
 

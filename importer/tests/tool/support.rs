@@ -113,18 +113,6 @@ pub fn text_in(folder: &Path, name: &str) -> String {
     fs::read_to_string(folder.join(name)).expect("a text was written")
 }
 
-/// The first of these programs that is here; if none is, tells so even where the tests' own text is
-/// not shown.
-pub fn program(names: &[&'static str], what: &str) -> Option<&'static str> {
-    let is_here = |name: &&str| Command::new(name).arg("--version").output().is_ok();
-    let found = names.iter().copied().find(is_here);
-    if found.is_none() {
-        writeln!(std::io::stderr(), "none of {names:?} is here: {what} is not tried")
-            .expect("a note");
-    }
-    found
-}
-
 pub fn lines_fit(text: &str) {
     for line in text.lines() {
         assert!(line.len() <= 100 && line.trim_end() == line, "{line:?}");

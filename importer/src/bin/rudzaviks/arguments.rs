@@ -4,7 +4,7 @@ use std::ffi::{OsStr, OsString};
 
 use crate::colour::When;
 use crate::commands::{Command, Operand};
-use crate::failure::Failure;
+use crate::failure::{Failure, HELP};
 use crate::options::{self, Opt};
 use crate::words::{self, Given};
 use crate::{completion, help, man};
@@ -192,7 +192,7 @@ pub fn quoted(word: &OsStr) -> String {
 /// Wrong usage, and where help is found.
 fn misused(what: &str, command: Option<Command>) -> Failure {
     let command = command.map_or(String::new(), |command| format!("{} ", command.name()));
-    Failure::wrong(format!("rudzaviks: {what}\nhelp: try `rudzaviks {command}--help`"))
+    Failure::wrong(format!("rudzaviks: {what}\n{HELP}try `rudzaviks {command}--help`"))
 }
 
 #[cfg(test)]

@@ -3,7 +3,6 @@
 use rudzaviks::{Counts, Reduced};
 
 use crate::colour::{Page, Style};
-use crate::coverage;
 use crate::input::Input;
 use crate::json::{Fields, Json};
 use crate::wrap::{wrap, WIDTH};
@@ -40,7 +39,8 @@ pub struct Sums {
 }
 
 impl Sums {
-    pub fn of(input: &Input, reduced: &Reduced) -> Sums {
+    /// The counts of a list, of which so many instructions are covered by no theorem.
+    pub fn of(input: &Input, reduced: &Reduced, uncovered: usize) -> Sums {
         let Counts { records, statics, members, nops, loads, moves, saves, fullest } =
             reduced.counts;
         Sums {
@@ -54,7 +54,7 @@ impl Sums {
             locations: members.into(),
             registers: input.settings.count_regs,
             fullest,
-            uncovered: coverage::uncovered(input).len() as u64,
+            uncovered: uncovered as u64,
         }
     }
 

@@ -21,9 +21,8 @@ pub fn uncovered(input: &Input) -> Vec<usize> {
     (0..input.records.len()).filter(is_uncovered).collect()
 }
 
-/// The remark about a list that has such, if it does; it starts with what is given.
-pub fn note(input: &Input, start: &str) -> Option<Page> {
-    let indexes = uncovered(input);
+/// The remark about a list that has these, if there are any; it starts with what is given.
+pub fn note(input: &Input, indexes: &[usize], start: &str) -> Option<Page> {
     let numbers: Vec<String> =
         indexes.iter().take(NAMED).map(|index| input.number(*index).to_string()).collect();
     let (last, first) = numbers.split_last()?;
@@ -33,7 +32,7 @@ pub fn note(input: &Input, start: &str) -> Option<Page> {
         (_, 0) => format!("{}s {} and {last}", input.unit(), first.join(", ")),
         _ => format!("{}s {} and {more} more", input.unit(), numbers.join(", ")),
     };
-    let kinds = kinds(input, &indexes).join(", ");
+    let kinds = kinds(input, indexes).join(", ");
     let note = format!("{start}note: no theorem about runs covers {which} ({kinds}): {NOT_PROVED}");
     let mut page = Page::default();
     wrap(&note, WIDTH).into_iter().for_each(|line| page.add(Style::Note, line));
@@ -60,9 +59,9 @@ fn kind(ins: &Instruction) -> &'static str {
     }
 }
 
-/// The list is refused if it has such.
-pub fn strict(input: &Input) -> Result<(), Failure> {
-    let Some(index) = uncovered(input).first().copied() else { return Ok(()) };
+/// The list is refused if it has any.
+pub fn strict(input: &Input, indexes: &[usize]) -> Result<(), Failure> {
+    let Some(index) = indexes.first().copied() else { return Ok(()) };
     let why = format!("no theorem about runs covers {}", kind(&input.instruction(index)));
     let mut page = Page::default();
     let place = input.place(index, None);
@@ -76,10 +75,10 @@ pub fn strict(input: &Input) -> Result<(), Failure> {
 }
 
 /// Where they are, for programs.
-pub fn fields(input: &Input) -> Fields {
-    let uncovered = uncovered(input).into_iter().map(|index| {
-        let kind = ("kind", Json::text(kind(&input.instruction(index))));
-        Json::Object(input.at(index).into_iter().chain([kind]).collect())
+pub fn fields(input: &Input, indexes: &[usize]) -> Fields {
+    let uncovered = indexes.iter().map(|index| {
+        let kind = ("kind", Json::text(kind(&input.instruction(*index))));
+        Json::Object(input.at(*index).into_iter().chain([kind]).collect())
     });
     vec![("uncovered", Json::list(uncovered))]
 }

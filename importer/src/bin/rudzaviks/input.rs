@@ -82,7 +82,7 @@ impl Input {
         }
         if is_wide(&bytes) {
             let what = "looks like text in UTF-16 or UTF-32";
-            return Err(Failure::wrong(format!("rudzaviks: {name} {what}\n{UTF8}")));
+            return Err(Failure::wrong(format!("rudzaviks: {name} {what}\n{HELP}{UTF8}")));
         }
         match String::from_utf8(bytes) {
             Ok(text) => Input::from_text(name, &text),
@@ -184,7 +184,7 @@ fn read_all(mut from: impl Read) -> io::Result<Vec<u8>> {
     Ok(bytes)
 }
 
-const UTF8: &str = "help: save the list as text in UTF-8";
+const UTF8: &str = "save the list as text in UTF-8";
 
 /// Whether it looks like a text of two or four bytes a character: by the mark that such a text
 /// starts with, or the bytes 0 in its first two characters.
@@ -211,7 +211,7 @@ fn not_utf8(name: &str, bytes: &[u8], at: usize) -> Failure {
     let column = before.rsplit('\n').next().map_or(0, |part| part.chars().count()) + 1;
     let place = format!("{name}:{line}:{column}");
     let what = "is not UTF-8, and this is no file of words either";
-    Failure::wrong(format!("{place}: the byte {:#04x} {what}\n{UTF8}", bytes[at]))
+    Failure::wrong(format!("{place}: the byte {:#04x} {what}\n{HELP}{UTF8}", bytes[at]))
 }
 
 /// Every mistake that is told, with its line.

@@ -9,7 +9,7 @@ use crate::arguments::{Arguments, View};
 use crate::colour::{Page, Style};
 use crate::commands::Command;
 use crate::counts::{number_of, Sums};
-use crate::failure::{Failure, NO_LIBRARY, REFUSED};
+use crate::failure::{Failure, HELP, NO_LIBRARY, REFUSED};
 use crate::json::{Fields, Json};
 use crate::report::{self, Alone, Places};
 use crate::shown::{Manner, Shown};
@@ -28,8 +28,8 @@ pub fn run(arguments: &Arguments) -> Result<u8, Failure> {
     }
     if arguments.command.needs_library() && !LINKED {
         let what = "rudzaviks: this tool was built without the verified library";
-        let how = "help: build it with the library, which `tools/library` makes";
-        return Err(Failure::new(NO_LIBRARY, &format!("{what}\n{how}")));
+        let how = "build it with the library, which `tools/library` makes";
+        return Err(Failure::new(NO_LIBRARY, &format!("{what}\n{HELP}{how}")));
     }
     let outs = Outs::new(arguments)?;
     let jobs = arguments.jobs.unwrap_or_else(workers::cores);

@@ -88,10 +88,8 @@ fn settings(input: &Input) -> Json {
 
 fn reduce(arguments: &Arguments, input: &Input, places: Places) -> Result<Report, Failure> {
     let reduced = reduced(input)?;
-    if arguments.strict {
-        coverage::strict(input)?;
-    }
-    let sums = Sums::of(input, &reduced);
+    let uncovered = taken(arguments, input)?;
+    let sums = Sums::of(input, &reduced, uncovered.len());
     let mut report = Report { sums: Some(sums), ..Report::default() };
     if matches!(arguments.view, View::Plain | View::Words) || places.out.is_some() {
         let alone = alone(arguments, input, &reduced)?;
@@ -99,29 +97,38 @@ fn reduce(arguments: &Arguments, input: &Input, places: Places) -> Result<Report
     }
     match arguments.view {
         View::Beside if places.out.is_none() => {
-            report.page = side_by_side::show(input, &reduced, false);
+            report.page = side_by_side::show(input, &reduced, &sums, false);
         }
-        View::Changes => report.page = side_by_side::show(input, &reduced, true),
+        View::Changes => report.page = side_by_side::show(input, &reduced, &sums, true),
         View::Stats => report.page = sums.table(),
         _ => {}
     }
-    remark(arguments, &mut report, input);
+    remark(arguments, &mut report, input, &uncovered);
     report.fields.extend(if_asked(arguments, || {
         let counts = ("counts", Json::Object(sums.fields()));
         let mut fields = side_by_side::fields(input, &reduced);
         fields.push(counts);
-        fields.extend(coverage::fields(input));
+        fields.extend(coverage::fields(input, &uncovered));
         fields
     }));
     Ok(report)
 }
 
+/// The indexes of what no theorem covers, in a list that is taken all the same.
+fn taken(arguments: &Arguments, input: &Input) -> Result<Vec<usize>, Failure> {
+    let uncovered = coverage::uncovered(input);
+    if arguments.strict {
+        coverage::strict(input, &uncovered)?;
+    }
+    Ok(uncovered)
+}
+
 /// Says what no theorem covers: on the page, if there is one. A table of numbers has it already.
-fn remark(arguments: &Arguments, report: &mut Report, input: &Input) {
+fn remark(arguments: &Arguments, report: &mut Report, input: &Input, uncovered: &[usize]) {
     let to_page = report.page != Page::default();
     let is_named = !to_page || arguments.command == Command::Check;
     let start = if is_named { format!("{}: ", input.name) } else { String::new() };
-    let Some(note) = coverage::note(input, &start) else { return };
+    let Some(note) = coverage::note(input, uncovered, &start) else { return };
     report.uncovered = true;
     match arguments.view {
         View::Stats => {}
@@ -160,15 +167,14 @@ fn place(report: &mut Report, alone: Alone, out: Option<&Path>) -> Result<(), Fa
 
 fn check(arguments: &Arguments, input: &Input) -> Result<Report, Failure> {
     reduced(input)?;
-    if arguments.strict {
-        coverage::strict(input)?;
-    }
+    let uncovered = taken(arguments, input)?;
     let page = Page::plain(&format!("{}: passes all eleven questions\n", input.name));
     let fields = if_asked(arguments, || {
-        [("passes", Json::Flag(true))].into_iter().chain(coverage::fields(input)).collect()
+        let where_not = coverage::fields(input, &uncovered);
+        [("passes", Json::Flag(true))].into_iter().chain(where_not).collect()
     });
     let mut report = Report { page, fields, ..Report::default() };
-    remark(arguments, &mut report, input);
+    remark(arguments, &mut report, input, &uncovered);
     Ok(report)
 }
 

@@ -8,8 +8,8 @@ use crate::input::Input;
 use crate::json::{Fields, Json};
 use crate::table::{columns, Row};
 
-/// All lines; or those alone that changed.
-pub fn show(input: &Input, reduced: &Reduced, changes: bool) -> Page {
+/// All lines, or those alone that changed; and the counts.
+pub fn show(input: &Input, reduced: &Reduced, sums: &Sums, changes: bool) -> Page {
     let outcomes = reduced.outcomes.iter().enumerate();
     let rows = outcomes.map(|(index, outcome)| row(input, reduced, index, *outcome));
     let rows = rows.filter(|row| !changes || row.mark != ' ');
@@ -22,7 +22,7 @@ pub fn show(input: &Input, reduced: &Reduced, changes: bool) -> Page {
         _ => page.append(columns(&rows, 0)),
     }
     page.add(Style::Plain, "");
-    page.append(Sums::of(input, reduced).summary(input.settings.count_regs));
+    page.append(sums.summary(input.settings.count_regs));
     page
 }
 
