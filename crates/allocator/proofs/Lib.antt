@@ -1,3 +1,3 @@
 -- The laws that the functions' proofs cite. Those that serve one file of src/ stand in the folder of its name.
-pub mod Limits
 pub mod Promise
+pub mod InFull

@@ -25,6 +25,7 @@ use Rattle.passes.specs.Color.{setup}
 use Rattle.passes.specs.Contract.{reduced, count_of, counts_of}
 use Rattle.passes.specs.Machine.{Passing, Preserves}
 use Rattle.theorems.proofs.Lengths.{reduced_length}
+use Rattle.theorems.proofs.NeverEmpty.{pool_never_empty}
 use Rattle.theorems.proofs.Preserved.{list_preserved}
 use Rattle.walks.specs.declared.Counts.{Counts}
 use Rattle.walks.specs.Lent.{Lent, Leaves, report}
@@ -109,7 +110,13 @@ module _ (s : Settings) (list table : List ℕ) (held : LentStatics) where
   pub promised : {now : LentStatics} {given : Result Counts Refusal} → LeavesStatics (verdict_of s list table held) s list table held now given
       → Optimized s list table held now given
   unfolding verdict_of
-  promised {given = given} w = record { leaves = w; preserved = keeps s list table held.out given (passing_with (room_in list table held) s list table) w.answer w.out }
+  promised {given = given} w =
+      let passing = passing_with (room_in list table held) s list table in
+      record {
+        leaves = w;
+        preserved = keeps s list table held.out given passing w.answer w.out;
+        pools = λ q. pool_never_empty s list table (passing q);
+      }
 
 -- ---- `optimize_words`
 
@@ -128,4 +135,10 @@ module _ (s : Settings) (list table : List ℕ) (held : Lent) where
   pub promised_words : {now : Lent} {given : Result Counts Refusal} → Leaves (verdict_of_words s list table held) s list table held now given
       → OptimizedWords s list table held now given
   unfolding verdict_of_words
-  promised_words {given = given} w = record { leaves = w; preserved = keeps s list table held.out given (passing_with (room_in_words list table held) s list table) w.answer w.out }
+  promised_words {given = given} w =
+      let passing = passing_with (room_in_words list table held) s list table in
+      record {
+        leaves = w;
+        preserved = keeps s list table held.out given passing w.answer w.out;
+        pools = λ q. pool_never_empty s list table (passing q);
+      }

@@ -5,6 +5,7 @@ use Rattle.mir.specs.Answers.{Verdict}
 use Rattle.mir.specs.Answers as verdict
 use Rattle.mir.specs.Answers.{Report, answered, refused, unless, left}
 use Rattle.mir.specs.Questions.{refusal}
+use Rattle.passes.specs.Color.{PoolsNeverEmpty}
 use Rattle.passes.specs.Contract.{reduced, members_of, words_of, counts_of}
 use Rattle.passes.specs.Machine.{Preserves}
 use Rattle.walks.specs.declared.Counts.{Counts}
@@ -52,6 +53,10 @@ records_in (refused number index) = 0
 abbrev pub KeepsRuns : Verdict → Settings → List ℕ → Result Counts Refusal → List ℕ → Type 0
 KeepsRuns v s list given out = v ≡ verdict.Passed → Preserves s list (take (records_in (report given) * 8) out)
 
+-- section 3: no choice that an accepted list makes finds its pool empty, whatever kinds the list has
+abbrev pub KeepsPools : Verdict → Settings → (list table : List ℕ) → Type 0
+KeepsPools v s list table = v ≡ verdict.Passed → PoolsNeverEmpty s list table
+
 -- by the verdict, what is answered, and what the slices then hold of what they held
 pub record LeavesStatics (v : Verdict) (s : Settings) (list table : List ℕ) (held now : LentStatics) (given : Result Counts Refusal) : Type 0 where
   pub answer : report given ≡ unless v (counts_of s list table)
@@ -63,8 +68,10 @@ pub record LeavesStatics (v : Verdict) (s : Settings) (list table : List ℕ) (h
 pub record Optimized (s : Settings) (list table : List ℕ) (held now : LentStatics) (given : Result Counts Refusal) : Type 0 where
   pub leaves : LeavesStatics (verdict_of s list table held) s list table held now given
   pub preserved : KeepsRuns (verdict_of s list table held) s list given now.out
+  pub pools : KeepsPools (verdict_of s list table held) s list table
 
 -- the promise of `optimize_words`
 pub record OptimizedWords (s : Settings) (list table : List ℕ) (held now : Lent) (given : Result Counts Refusal) : Type 0 where
   pub leaves : Leaves (verdict_of_words s list table held) s list table held now given
   pub preserved : KeepsRuns (verdict_of_words s list table held) s list given now.out
+  pub pools : KeepsPools (verdict_of_words s list table held) s list table

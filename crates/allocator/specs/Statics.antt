@@ -14,6 +14,6 @@ entries [] es = []
 entries (c ∷ cs) [] = []
 entries (c ∷ cs) (e ∷ es) = entry c e ∷ entries cs es
 
--- a list's statics; one that passes has as many ends as colours (`ends_same`)
+-- a list's statics; one that passes has as many ends as colours (law `ends_same`)
 unfoldable pub statics_of : Settings → List ℕ → List ℕ → List Static
 statics_of s list table = entries (colours_of s list table) (ends_of list)

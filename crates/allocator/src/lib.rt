@@ -5,6 +5,7 @@
 ghost use Rattle.std.specs.Prelude.{◌≡◌};
 ghost use Rattle.allocator.specs.Optimize.{Optimized, lent_statics, room_for};
 
+pub mod laws;
 pub mod sized;
 pub mod statics;
 #[cfg(test)]

@@ -1,6 +1,6 @@
 -- A record's sources one by one, and its location: where the words stand, and that a location with a partner has room for it.
 -- By the table of shapes.
-use Prim.Native.Nat.{ℕ, suc, ◌+◌, ◌<◌, ◌≤◌}
+use Prim.Native.Nat.{ℕ, suc, ◌<◌, ◌≤◌}
 use mathlib.Core.Bool.{Bool, true, false, ◌&&◌, ◌||◌}
 use mathlib.Core.List.{List, [], ◌∷◌, map}
 use mathlib.Core.Path.{◌≡◌, refl}
@@ -13,21 +13,12 @@ use Rattle.mir.specs.Records.{is_gen, word_at}
 use Rattle.mir.proofs.Clash.{clash}
 use Rattle.mir.specs.Shapes.{any, shape_of, shape_for, sources}
 use Rattle.mir.proofs.Passing.{word_fits_lem}
-use Rattle.mir.proofs.Words.{window_at}
-use Rattle.mir.proofs.Shapes.{each_from, rule, is_complex, complex_kind, loc_in_record, regs_in_record}
+use Rattle.mir.proofs.Shapes.{each_from, rule, is_complex, complex_kind, loc_in_record}
 use Rattle.passes.specs.Color.{loc_of}
 use Rattle.theorems.proofs.Lengths.{sources_length}
 use Rattle.colours.specs.Colours.{sources_used}
 use Rattle.colours.specs.Masks.{is_in}
 use Rattle.coloring.specs.Coloring.{Coloured}
-
-module _ (rec : List ℕ) (len : length rec ≡ 8) where
-  module _ (f : ℕ → ℕ) (j : ℕ) where
-    pub source_word_lem : j < (shape_for rec).srcs → get_or (map f (sources rec)) j 0 ≡ f (word_at rec ((shape_for rec).regs + (shape_for rec).dsts + j))
-    unfolding sources
-    source_word_lem h =
-        let s = shape_for rec in
-        window_at rec (s.regs + s.dsts) s.srcs (omega (arith, len, regs_in_record (word_at rec 0))) j h f
 
 -- question 8 leaves room for the partner of a location of two halves
 pub partner_below : (rec : List ℕ) → is_complex (shape_for rec).action ≡ true → partner_fits rec ≡ true → (loc_of rec).index < any

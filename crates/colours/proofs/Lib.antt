@@ -7,5 +7,5 @@ pub mod Colours
 pub mod Choices
 pub mod Expiring
 pub mod Steps
--- the words and the masks by computation
-pub mod MaskCases
+-- what the masks tell
+pub mod MaskTold

@@ -1,3 +1,4 @@
--- Inner: no promise of an operation is made in these words. What request 3 asks to be shown is `Masked`.
+-- Inner: no promise of an operation is made in these words. What the masks of bits say is `Masked`.
 pub mod Masks
 pub mod Colours
+pub mod MaskCases

@@ -3,5 +3,6 @@
 #![tactic(auto)]
 
 pub mod allocs;
+pub mod laws;
 pub mod masks;
 pub mod pool;

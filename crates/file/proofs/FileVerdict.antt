@@ -17,10 +17,11 @@ use Rattle.mir.specs.Records.{records, fixed_mark}
 use Rattle.mir.proofs.Clash.{clash}
 use Rattle.mir.proofs.Passing.{room_passes}
 use Rattle.passes.specs.declared.alloc.Outcome.TheVariants.{Kept}
-use Rattle.passes.specs.Color.{setup}
+use Rattle.passes.specs.Color.{setup, PoolsNeverEmpty}
 use Rattle.passes.specs.Contract.{counts_of, count_of}
 use Rattle.passes.specs.Machine.{Passing, Preserves}
 use Rattle.theorems.proofs.Lengths.{counts_add}
+use Rattle.theorems.proofs.NeverEmpty.{pool_never_empty}
 use Rattle.theorems.proofs.Preserved.{list_preserved}
 use Rattle.std.specs.Prelude.{Some, None}
 use Rattle.file.specs.File.{settings_in, pair_count, record_count, table_in, list_in, well_formed, counted, layout_of, file_verdict, file_counts, file_reduced}
@@ -80,7 +81,11 @@ answered_passed room file c a = go (file_verdict room file) a
     go Passed e = (refl, cc)
     go (Refused number index) e = clash (cc)
 
--- demand 3, of words that are the reduced list
+-- the runs, of words that are the reduced list
 pub accepted_preserved : {room : Bool} {file words : List ℕ} → Accepted room file → words ≡ file_reduced file
     → Preserves (settings_in file) (list_in file) words
 accepted_preserved {file = file} a e = rw e (list_preserved (settings_in file) (list_in file) (table_in file) a.passing)
+
+-- and its choices
+pub accepted_pools : {room : Bool} {file : List ℕ} → Accepted room file → PoolsNeverEmpty (settings_in file) (list_in file) (table_in file)
+accepted_pools {file = file} a = pool_never_empty (settings_in file) (list_in file) (table_in file) a.passing

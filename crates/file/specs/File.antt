@@ -10,6 +10,7 @@ use Rattle.mir.specs.Answers.{Verdict}
 use Rattle.mir.specs.Answers.{Passed, Refused}
 use Rattle.mir.specs.Answers.{unless}
 use Rattle.mir.specs.Questions.{refusal}
+use Rattle.passes.specs.Color.{PoolsNeverEmpty}
 use Rattle.passes.specs.Contract.{counts_of, reduced}
 use Rattle.passes.specs.Machine.{Preserves}
 use Rattle.file.specs.declared.layout.Layout.{Layout}
@@ -92,3 +93,4 @@ pub record FileReduced (file held now : List ℕ) (given : Result Counts Refusal
   pub preserved :
       words_verdict file held ≡ Passed
       → Preserves (settings_in file) (list_in file) (take (records_in (report given) * 8) now)
+  pub pools : words_verdict file held ≡ Passed → PoolsNeverEmpty (settings_in file) (list_in file) (table_in file)

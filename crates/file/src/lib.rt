@@ -1,6 +1,7 @@
 // The file (document 01, section 8): its words and sections, and what reducing it gives.
 #![tactic(auto)]
 
+pub mod laws;
 pub mod layout;
 pub mod reduce;
 

@@ -3,14 +3,11 @@
 use Prim.Native.Nat.{ℕ, ◌+◌, ◌*◌, ◌/◌, ◌<◌, ◌≤◌}
 use mathlib.Core.Bool.{true}
 use mathlib.Core.List.{List}
-use mathlib.Core.Path.{◌≡◌}
 use native.Mathlib.Omega.{arith}
 use lib.ListN.{length}
 use Rattle.mir.specs.declared.config.Settings.{Settings}
 use Rattle.mir.specs.declared.rename.Renaming.{Renaming}
-use Rattle.mir.specs.Questions.{gens_fit}
-use Rattle.mir.specs.Records.{max_regs, record_at}
-use Rattle.mir.proofs.Passing.{ListPasses, list_passes, gens_fit_more}
+use Rattle.mir.proofs.Passing.{ListPasses, list_passes}
 use Rattle.mir.proofs.Renaming.{Walked, statics_two}
 use Rattle.passes.specs.Machine.{Passing}
 use Rattle.lives.specs.Lives.{Passes}
@@ -26,9 +23,6 @@ module _ (list : List ℕ) (h : Passes list) (i : ℕ) (l : i < length list / 8)
 
   pub few_words : length list ≤ 524288
   few_words = p.sized.small
-
-  pub gens_fit_lem : {rec : List ℕ} → rec ≡ record_at list i → gens_fit max_regs rec ≡ true
-  gens_fit_lem e = rw e (gens_fit_more h.0.count_regs max_regs (record_at list i) p.few (p.each i l).shape.gens)
 
   pub few_statics : {r : Renaming} → Walked list i r → r.statics + 2 ≤ (length list / 8) * 2
   few_statics w = omega (arith, w.statics_are, statics_two list i)

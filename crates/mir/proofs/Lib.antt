@@ -1,14 +1,10 @@
 -- Laws that several functions' proofs, and the crates above, cite.
-pub mod BranchCases
 pub mod Clash
 pub mod Asked
 pub mod Folds
-pub mod LeftCases
-pub mod Limits
 pub mod Masks
 pub mod Over
 pub mod Passing
 pub mod Records
 pub mod Renaming
 pub mod Shapes
-pub mod Words

@@ -10,7 +10,7 @@ use lib.ListN.{length, get_or, set}
 use lib.Dec.{ltb, leb, eqb}
 use borrow.Author.Tests.{lt-ltb, ltb-true, leb-true, eqb-true}
 use Rattle.mir.specs.declared.config.Settings.{Settings}
-use Rattle.mir.specs.Answers.{Verdict, Passed, Refused}
+use Rattle.mir.specs.Answers.{Verdict, Passed}
 use Rattle.mir.specs.Branches.{past_to}
 use Rattle.std.specs.List.{list_all}
 use Rattle.mir.specs.Folds.{all_below, first_no, refused_at, or_else}
@@ -19,7 +19,6 @@ use Rattle.mir.specs.Questions.{shape_no, record_no, record_by, record_refusal, 
 use Rattle.mir.specs.Records.{is_gen, max_regs, records, record_at}
 use Rattle.mir.specs.Renaming.{regs_to}
 use Rattle.mir.specs.Shapes.{shape_for, dests, sources, registers}
-use Rattle.mir.proofs.Clash.{clash}
 use Rattle.mir.specs.Inner.{source_passes, start_refusal, list_refusal}
 use Rattle.mir.proofs.Folds.{all_append, all_at, both_passed, none_refused, refusal_none}
 use Rattle.mir.proofs.Renaming.{registers_are, and_both}
@@ -274,10 +273,6 @@ pub record ListPasses (s : Settings) (list table : List ℕ) : Type 0 where
   pub sized : Sized (length list) (length table)
   pub each : (i : ℕ) → i < records list → Passes table s.count_regs (record_at list i) (regs_to list i) (past_to list i)
   pub landing : (i : ℕ) → i < records list → lands list (record_at list i) ≡ true
-
--- a refusal is no pass
-pub not_passed : (number index : ℕ) → Refused number index ≡ Passed → ⊥
-not_passed number index q = clash (cc)
 
 module _ (room : Bool) (s : Settings) (list table : List ℕ) (h : refusal room s list table ≡ Passed) where
   abbrev asked : List (ℕ × Bool)

@@ -2,7 +2,7 @@
 -- By one law on the words from any place, any number of them.
 use Prim.Native.Nat.{ℕ, zero, suc, ◌+◌, ◌*◌, ◌≤◌, ◌<◌}
 use mathlib.Core.Path.{◌≡◌, refl}
-use mathlib.Core.List.{List, [], ◌∷◌, ◌++◌, foldr}
+use mathlib.Core.List.{List, [], ◌∷◌}
 use native.Mathlib.Omega.{arith}
 use native.Mathlib.Nat.{add-zero, add-suc, suc-add}
 use lib.ListN.{length, get_or, take, drop}
@@ -10,10 +10,6 @@ use lib.Seq.{drop-cons}
 use Rattle.std.proofs.lemmas.List.{drop-drop}
 use Rattle.std.specs.Simd.{first_chunks}
 use Rattle.mir.specs.Records.{record_at, records}
-
--- records in a row, as a list of words
-abbrev pub flat : List (List ℕ) → List ℕ
-flat = foldr ◌++◌ []
 
 -- f 0, f 1, and so on, n of them
 abbrev pub tabulate : ℕ → (ℕ → ℕ) → List ℕ
@@ -26,10 +22,6 @@ words_at l (suc n) b h =
     let here : b < length l = omega arith in
     rw (drop-cons l b 0 here, words_at l n (suc b) (omega arith))
     (simp (add-zero, add-suc, suc-add))
-
-pub record_words : (l : List ℕ) (i : ℕ) → i * 8 + 8 ≤ length l → record_at l i ≡ tabulate 8 (λ p. get_or l (i * 8 + p) 0)
-unfolding record_at
-record_words l i h = words_at l 8 (i * 8) h
 
 -- ---- the chunks of eight words
 

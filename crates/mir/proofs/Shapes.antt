@@ -31,15 +31,6 @@ pub bare_past : (k : ℕ) → 21 ≤ k → bare ≡ shape_of k
 unfolding shape_of
 bare_past k h = rw (get_or-eq_default shapes bare h) refl
 
--- k is none of the n keys from m on, in the form in which a `match` leaves it
-abbrev NoKey : ℕ → ℕ → ℕ → Type 0
-NoKey k m zero = Unit {0}
-NoKey k m (suc n) = NoKey k m n × (k ≡ m + n → ⊥)
-
-pub past_keys : (k m n : ℕ) → m ≤ k → NoKey k m n → m + n ≤ k
-past_keys k m zero h r = omega arith
-past_keys k m (suc n) h r = omega (arith, past_keys k m n h r.0, r.1)
-
 -- ---- a rule of the table: a test that computes over the rows, and holds of the shape past the end
 
 and_left : (a b : Bool) → T (a && b) → T a

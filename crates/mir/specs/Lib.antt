@@ -7,4 +7,9 @@ pub mod Folds
 pub mod Branches
 pub mod Questions
 pub mod Answers
+-- what holds of them: laws, and cases that hold each definition
+pub mod Laws
+pub mod LimitCases
+pub mod BranchCases
+pub mod LeftCases
 pub mod Inner

@@ -2,6 +2,7 @@
 #![tactic(auto)]
 
 pub mod config;
+pub mod laws;
 pub mod questions;
 pub mod record;
 pub mod refusal;

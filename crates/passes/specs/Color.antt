@@ -298,6 +298,13 @@ color_to u (suc i) = color_step u i (color_to u i)
 abbrev pub setup : Settings → List ℕ → List ℕ → Setup
 setup s list table = record { count = s.count_regs; ends = ends_of list; table = table; list = list }
 
+-- no choice finds its pool empty: at each record of a list, each choice that the destinations make is found or has a colour in its
+-- pool
+abbrev pub PoolsNeverEmpty : Settings → (list table : List ℕ) → Type 0
+PoolsNeverEmpty s list table =
+    let u = setup s list table in
+    (i : ℕ) → i < records list → HavePools s.count_regs i u.ends (dests_at u i (color_to u i)) (color_to u i)
+
 -- ---- how full the registers got (document 02, request 7)
 
 -- how many of the n colours are needed past instruction i, that is have a life above it

@@ -3,4 +3,5 @@
 #![tactic(auto)]
 
 pub mod alloc;
+pub mod laws;
 pub mod symbol;

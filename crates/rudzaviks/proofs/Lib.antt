@@ -1,5 +1,5 @@
 -- The laws that the functions' proofs cite.
-pub mod Cases
+pub mod InFull
 pub mod Optimize
 pub mod ReduceBytes
 pub mod Survey

@@ -41,6 +41,7 @@ module _ {s : Settings} {list table : List ℕ} {held : Lent} {counts : List ℕ
         preserved = λ q.
             let n : report_word records_word (report given) ≡ records_in (report result) = cc in
             rw n (p.preserved (cc));
+        pools = λ q. p.pools (cc);
       }
 
   -- no room for the counts
@@ -58,4 +59,5 @@ module _ {s : Settings} {list table : List ℕ} {held : Lent} {counts : List ℕ
         set = rw f;
         counts = rw f;
         preserved = λ q. clash (cc);
+        pools = λ q. clash (cc);
       }

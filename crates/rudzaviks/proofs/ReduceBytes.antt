@@ -24,7 +24,7 @@ use Rattle.mir.specs.declared.refusal.Refusal.{Refusal}
 use Rattle.rudzaviks.specs.Exports.{RudzaviksReduce, refusal_word, report_word, records_word, file_words, bytes_verdict}
 use Rattle.file.specs.File.{bytes_of, record_count, layout_of, file_verdict, file_counts, file_reduced}
 use Rattle.file.proofs.layout.Bytes.{words_back}
-use Rattle.file.proofs.FileVerdict.{bad_verdict, accepted, kept, kept_size, kept_few, answered_passed, accepted_preserved}
+use Rattle.file.proofs.FileVerdict.{bad_verdict, accepted, kept, kept_size, kept_few, answered_passed, accepted_preserved, accepted_pools}
 use Rattle.file.proofs.Sections.{Sections, sections}
 use Rattle.file.proofs.WordBounds.{reduced_small}
 
@@ -39,6 +39,7 @@ bytes_promise {file} {held} a o =
           let p = accepted v in
           let rest = drop (length (bytes_of (file_words file))) held in
           accepted_preserved p (cc (kept_size file, words_back (kept file) (file_reduced file) rest (reduced_small _ _ _ p.passing)));
+      pools = λ v. accepted_pools (accepted v);
     }
 
 -- ---- a refusal

@@ -11,6 +11,7 @@ use Rattle.mir.specs.Answers.{Report, answered, refused, unless}
 use Rattle.survey.specs.Beside.{parts}
 use Rattle.mir.specs.Questions.{refusal, refusal_beside}
 use Rattle.passes.specs.declared.alloc.Outcome.TheVariants.{Kept}
+use Rattle.passes.specs.Color.{PoolsNeverEmpty}
 use Rattle.passes.specs.Contract.{counts_of, count_of, words_of, reduced, colours_of, members_of}
 use Rattle.passes.specs.Create.{ends_of}
 use Rattle.passes.specs.Machine.{Preserves}
@@ -66,6 +67,7 @@ pub record RudzaviksOptimize (s : Settings) (list table : List ℕ) (held : Lent
   pub preserved :
       verdict_with s list table held held_counts ≡ Passed
       → Preserves s list (take (given * 8) now.out)
+  pub pools : verdict_with s list table held held_counts ≡ Passed → PoolsNeverEmpty s list table
 
 -- ---- rudzaviks_reduce
 
@@ -85,3 +87,4 @@ pub record RudzaviksReduce (file held now : List ℕ) (given : ℕ) : Type 0 whe
   pub preserved :
       bytes_verdict file held ≡ Passed
       → Preserves (settings_in file) (list_in file) (words_in now 1 (given * 8))
+  pub pools : bytes_verdict file held ≡ Passed → PoolsNeverEmpty (settings_in file) (list_in file) (table_in file)

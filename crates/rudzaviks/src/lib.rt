@@ -8,6 +8,8 @@ ghost use Rattle.file.specs.File.{flag, settings_of, layout_of};
 ghost use Rattle.mir.specs.Answers.{number_of, over, unless, verdict_in};
 ghost use Rattle.survey.specs.Beside.{place_in};
 
+pub mod laws;
+
 use allocator::words::optimize_words;
 use file::layout::{Layout, layout_of, write_words};
 use file::reduce::{LIST, reduce_sections};

@@ -1,5 +1,4 @@
 -- Laws of the read set and its index.
 pub mod Pairs
 pub mod Paths
-pub mod Cases
 pub mod Bound

@@ -6,6 +6,8 @@ ghost use Rattle.std.specs.Prelude.{ℕ, ◌+◌, ◌*◌, ◌/◌, ◌%◌, ◌
 ghost use Rattle.sets.specs.Sets.{pair_at, bucket, key, link, Roomy, Indexed, Ends};
 ghost use Rattle.passes.specs.Color.{pairs_from, is_member, join, joined};
 
+pub mod laws;
+
 use passes::symbol::Loc;
 
 // The location whose words are the `j`th pair.

@@ -1,4 +1,2 @@
--- Laws that several functions' proofs cite, and the survey's cases.
+-- Laws that several functions' proofs cite.
 pub mod Masks
-pub mod Pair
-pub mod Surveys

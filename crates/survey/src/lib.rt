@@ -8,6 +8,8 @@ ghost use Rattle.mir.specs.Branches.{is_label};
 ghost use Rattle.mir.specs.Questions.{gens_fit, well_sized, shape_refusal};
 ghost use Rattle.mir.specs.Records.{max_regs};
 
+pub mod laws;
+
 use mir::config::Settings;
 use mir::questions::{check_shape, check_sizes};
 use mir::record::{Record, records_of};

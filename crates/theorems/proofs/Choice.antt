@@ -61,9 +61,6 @@ pub holds_at_lem : (h : Option Loc) (l : Loc) → holds h l ≡ true → h ≡ S
 holds_at_lem None l e = cc
 holds_at_lem (Some m) l e = ap Some (same_loc_lem m l e)
 
-pub at_holds : (h : Option Loc) (l : Loc) → h ≡ Some l → holds h l ≡ true
-at_holds h l e = rw e (loc_same l)
-
 module _ (n i : ℕ) (allocs : List Alloc) where
   plain_free : (c : ℕ) → plain_choice n i allocs ≡ Free c → (c < n) × (is_free i allocs c ≡ true)
   unfolding plain_choice
@@ -128,18 +125,6 @@ module _ (n i : ℕ) (allocs : List Alloc) where
           let g = first_some (holds_at allocs l) n c (q ∙ ap Some t) in
           (g.0, (l, refl, holds_at_lem (colour_at allocs c).loc l g.1))
       go None q f = absurd (plain_not_found c f)
-
-  -- a location that some colour holds is found
-  pub choose_held : (l : Loc) (d : ℕ) → d < n → (colour_at allocs d).loc ≡ Some l → (c : ℕ) × (choose n i (Some l) allocs ≡ Found c)
-  unfolding choose
-  choose_held l d h e = go (first_below (holds_at allocs l) n) refl
-    where
-      go : (o : Option ℕ) → first_below (holds_at allocs l) n ≡ o → (c : ℕ) × (found_or o (plain_choice n i allocs) ≡ Found c)
-      go (Some k) q = (k, refl)
-      go None q =
-          let f = first_none (holds_at allocs l) n d q h in
-          let g = at_holds (colour_at allocs d).loc l e in
-          clash (cc)
 
   -- an empty pool: every colour's life is above i
   pub choose_empty : (h : Option Loc) → choose n i h allocs ≡ Empty → (c : ℕ) → c < n → i < (colour_at allocs c).life

@@ -24,7 +24,8 @@ use Rattle.mir.proofs.Shapes.{args_kind}
 use Rattle.passes.specs.declared.symbol.Loc.{Loc}
 use Rattle.passes.specs.Color.{Setup, setup, loc, pairs_from, reads, is_member, join, joined, color_to}
 use Rattle.theorems.proofs.Actions.{same_action}
-use Rattle.theorems.proofs.ReadSet.{InLocs, reads_at, members_next, Once, member_append, member_last, joined_keeps, joined_once, joined_more}
+use Rattle.theorems.specs.Laws.{Once}
+use Rattle.theorems.proofs.ReadSet.{InLocs, reads_at, members_next, member_append, member_last, joined_keeps, joined_once, joined_more}
 
 -- how many places of the table hold a member
 hits : List Loc → List Loc → ℕ

@@ -7,7 +7,7 @@ use Prim.Native.Nat.{ℕ, zero, suc, ◌+◌, ◌-◌, ◌≤◌, ◌<◌}
 use mathlib.Core.Bool.{Bool, true, false, cond, ◌||◌}
 use mathlib.Core.List.{List, [], ◌∷◌, map}
 use mathlib.Core.Logic.{⊎_elim}
-use mathlib.Core.Path.{◌≡◌, refl, ap, ◌∙◌}
+use mathlib.Core.Path.{◌≡◌, refl, sym, ap, ◌∙◌}
 use native.Mathlib.Omega.{arith}
 use lib.Dec.{eqb}
 use lib.ListN.{length, get_or}
@@ -24,12 +24,13 @@ use Rattle.mir.proofs.Clash.{clash}
 use Rattle.mir.proofs.Passing.{ListPasses, list_passes}
 use Rattle.mir.proofs.Renaming.{gens_fit_both, regs_length, not_fresh}
 use Rattle.passes.specs.declared.alloc.Alloc.{Alloc}
-use Rattle.passes.specs.Color.{Setup, setup, Coloring, colour_at, wanted, source_word, update_allocs, loc_of, HavePools, after_dests}
+use Rattle.passes.specs.Color.{Setup, setup, Coloring, colour_at, wanted, source_word, update_allocs, loc_of, PoolsNeverEmpty, after_dests}
 use Rattle.passes.specs.Color.{sources_at, dests_at, color_step, color_to}
+use Rattle.passes.specs.Contract.{colours_of}
 use Rattle.passes.specs.Create.{ends_of}
 use Rattle.passes.specs.Machine.{Passing}
 use Rattle.theorems.proofs.Actions.{same_action}
-use Rattle.theorems.proofs.Create.{In, all_in, names_to, gone_end}
+use Rattle.theorems.proofs.Create.{In, all_in, names_to, gone_end, ends_count}
 use Rattle.theorems.proofs.Pool.{Owner, Owned, Below, words, Before, After, walk}
 use Rattle.theorems.proofs.Locations.{update_life, update_length, blank_life}
 
@@ -182,10 +183,16 @@ module _ (s : Settings) (list table : List ℕ) (passes : ListPasses s list tabl
   pub choices_of : (i : ℕ) → i < records list → AfterAt s list table i
   choices_of i l = done s list table passes i l (ready_to i (omega arith))
 
-pub pool_never_empty : (s : Settings) (list table : List ℕ) → Passing s list table → (i : ℕ) → i < records list
-    → HavePools s.count_regs i (ends_of list) (dests_at (setup s list table) i (color_to (setup s list table) i)) (color_to (setup s list table) i)
+pub pool_never_empty : (s : Settings) (list table : List ℕ) → Passing s list table → PoolsNeverEmpty s list table
 unfolding Passing
 pool_never_empty s list table h i l = (choices_of s list table (list_passes true s list table h) i l).pools
+
+-- an end for each colour
+pub ends_same : (s : Settings) (list table : List ℕ) → Passing s list table → length (ends_of list) ≡ length (colours_of s list table)
+unfolding Passing colours_of
+ends_same s list table h =
+    let passes = list_passes true s list table h in
+    ends_count list ∙ sym (ready_to s list table passes (records list) (omega arith)).next
 
 -- ---- sources
 

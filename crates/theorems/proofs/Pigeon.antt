@@ -10,10 +10,6 @@ use lib.Dec.{eqb}
 use borrow.Author.Tests.{eq-eqb, ne_eqb}
 use Rattle.mir.proofs.Clash.{same_or}
 
--- different numbers up to n go to different numbers
-Apart : ℕ → (ℕ → ℕ) → Type 0
-Apart n f = (a b : ℕ) → a ≤ n → b ≤ n → f a ≡ f b → a ≡ b
-
 -- f with the hole of suc n in place of hole n
 moved : ℕ → (ℕ → ℕ) → ℕ → ℕ
 moved n f a = cond (eqb (f a) n) (f (suc n)) (f a)

@@ -4,7 +4,7 @@ use Rattle.std.specs.Prelude.{Option}
 use Prim.Native.Nat.{ℕ, zero, suc, ◌+◌, ◌-◌, ◌≤◌, ◌<◌}
 use mathlib.Core.Bool.{Bool, true, false, cond, ◌||◌, not, or-true, or-false, or_assoc}
 use mathlib.Core.List.{List, [], ◌∷◌, ◌++◌}
-use mathlib.Core.Logic.{◌⊎◌, inl, inr, ⊎_elim}
+use mathlib.Core.Logic.{◌⊎◌, ⊎_elim}
 use mathlib.Core.Path.{◌≡◌, refl, sym, subst, ◌∙◌}
 use native.Mathlib.Nat.{zero-add, suc-add}
 use native.Mathlib.Omega.{arith}
@@ -13,11 +13,11 @@ use lib.ListN.{length, get_or, length-append}
 use Rattle.mir.specs.Records.{records, record_at, word_at, is_gen}
 use Rattle.mir.specs.Shapes.{shape_for}
 use Rattle.passes.specs.declared.symbol.Loc.{Loc}
+use Rattle.theorems.specs.Laws.{Once}
 use Rattle.passes.specs.Color.{Setup, Coloring, loc_of, same_loc, pairs_from, reads, is_member, join, joined, assign, choose, chosen}
 use Rattle.passes.specs.Color.{after_dest, after_dests, dests_at, found_at, color_step, color_to}
 use Rattle.passes.specs.Contract.{read_set}
 use Rattle.theorems.proofs.Choice.{same_loc_lem, loc_same}
-use Rattle.mir.proofs.Clash.{clash}
 
 -- l is one of the locations
 abbrev pub InLocs : Loc → List Loc → Type 0
@@ -57,16 +57,6 @@ pub member_snoc : (k l : Loc) (ms : List Loc) → is_member k (ms ++ l ∷ []) �
 unfolding is_member
 member_snoc k l ms = rw (member_either k ms (l ∷ []), or-false (same_loc l k))
 
--- a member is one of the locations
-pub member_in : (l : Loc) (ms : List Loc) → is_member l ms ≡ true → InLocs l ms
-unfolding is_member
-member_in l [] h = clash (cc)
-member_in l (m ∷ ms) h = go (same_loc m l) refl (member_in l ms)
-  where
-    go : (b : Bool) → same_loc m l ≡ b → (is_member l ms ≡ true → InLocs l ms) → (l ≡ m) ⊎ InLocs l ms
-    go true e up = inl (sym (same_loc_lem m l e))
-    go false e up = inr (up (rw e at h))
-
 -- ---- joining
 
 pub join_has : (ms : List Loc) (l : Loc) → is_member l (join ms l) ≡ true
@@ -95,11 +85,6 @@ joined_has ms (l ∷ ls) k h =
     ⊎_elim (λ (e : k ≡ l). joined_keeps (join ms l) ls k (rw e (join_has ms l))) (λ (g : InLocs k ls). joined_has (join ms l) ls k g) h
 
 -- ---- no repeats
-
--- each location stands once
-abbrev pub Once : List Loc → Type 0
-Once [] = Unit {0}
-Once (m ∷ ms) = (is_member m ms ≡ false) × Once ms
 
 or_both : (a b : Bool) → (a || b) ≡ false → (a ≡ false) × (b ≡ false)
 or_both true b h = (h, cc)

@@ -102,30 +102,20 @@ fn list_name(name: &str) -> String {
     name.replace('-', "_")
 }
 
-/// The name of the list's equation. A list whose name is one word lends it that.
-fn field_name(name: &str) -> String {
-    let end = match name {
-        "thirty-two" => "_case",
-        _ if name.contains('-') => "_lem",
-        _ => "",
-    };
-    list_name(name) + end
-}
-
 fn definition(Named { name, shows, list }: &Named) -> String {
     let name = list_name(name);
     let s = list.settings;
     let settings = format!("{} {} {} {} {}", s.count_regs, s.args, s.complex, s.arm, s.compress);
     let input = format!("    input {settings} {}\n", table(&list.table));
     let records = wrapped("    ", &format!("({})", records(&list.words)));
-    format!("-- {shows}\npub {name} : Input\n{name} =\n{input}{records}")
+    format!("-- {shows}\nunfoldable pub {name} : Input\n{name} =\n{input}{records}")
 }
 
 /// A field of a record of equations; the parts of the right side begin a line each.
 fn field(name: &str, of: &str, is: &[String]) -> String {
-    let (name, list) = (field_name(name), list_name(name));
+    let list = list_name(name);
     let right: String = is.iter().map(|part| wrapped("      ", part)).collect();
-    format!("  pub {name} :\n      {of} {list}\n{right}")
+    format!("  pub {list} :\n      {of} {list}\n{right}")
 }
 
 fn reduced(Named { name, list, .. }: &Named) -> String {

@@ -218,8 +218,8 @@ fn in_one_line(text: &str) -> String {
 /// The right sides of the theorem are what the amended copy says today; where lines break is the file's own affair.
 #[test]
 fn the_stored_theorem_is_this_one() {
-    let path = concat!(env!("CARGO_MANIFEST_DIR"), "/../../crates/passes/proofs/Lists.antt");
-    let stored = std::fs::read_to_string(path).expect("crates/passes/proofs/Lists.antt");
+    let path = concat!(env!("CARGO_MANIFEST_DIR"), "/../../crates/passes/specs/StoredLists.antt");
+    let stored = std::fs::read_to_string(path).expect("crates/passes/specs/StoredLists.antt");
     let text = in_one_line(&text(&lists()));
     assert!(
         in_one_line(&stored).contains(&text),

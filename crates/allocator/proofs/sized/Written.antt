@@ -2,8 +2,7 @@
 -- There are as many ends as colours, and the count names both.
 use Prim.Native.Nat.{ℕ, suc, ◌*◌, ◌/◌, ◌≤◌}
 use mathlib.Core.List.{List, [], ◌∷◌, ◌++◌}
-use mathlib.Core.Bool.{true}
-use mathlib.Core.Path.{◌≡◌, refl, sym, ap, ◌∙◌}
+use mathlib.Core.Path.{◌≡◌, refl, sym, ap}
 use native.Mathlib.Omega.{arith}
 use lib.ListN.{length, get_or, take, drop}
 use Rattle.std.specs.Prelude.{Ok, Err}
@@ -17,8 +16,7 @@ use Rattle.passes.specs.Contract.{reduced, colours_of, members_of, words_of, cou
 use Rattle.passes.specs.Create.{ends_of}
 use Rattle.passes.specs.Machine.{Passing}
 use Rattle.theorems.proofs.Create.{ends_count}
-use Rattle.theorems.proofs.NeverEmpty.{ready_to}
-use Rattle.mir.proofs.Passing.{ListPasses, list_passes}
+use Rattle.theorems.proofs.NeverEmpty.{ends_same}
 use Rattle.walks.specs.declared.Counts.{Counts}
 use Rattle.walks.specs.Lent.{Lent, Leaves}
 use Rattle.walks.specs.Walks.{Reduces}
@@ -45,17 +43,9 @@ kept s list table statics r w =
     }
 
 module _ (s : Settings) (list table : List ℕ) (h : Passing s list table) where
-  passes : ListPasses s list table
-  unfolding Passing
-  passes = list_passes true s list table h
-
-  pub ends_same : length (ends_of list) ≡ length (colours_of s list table)
-  unfolding colours_of
-  ends_same = ends_count list ∙ sym (ready_to s list table passes (records list) (omega arith)).next
-
   statics_length : length (statics_of s list table) ≡ length (colours_of s list table)
   unfolding statics_of
-  statics_length = entries_length (colours_of s list table) (ends_of list) ends_same
+  statics_length = entries_length (colours_of s list table) (ends_of list) (ends_same s list table h)
 
   module _ {held now : Lent} {r : Counts} (w : Reduces s list table held now r) where
     count_is : r.statics ≡ length (colours_of s list table)
@@ -64,14 +54,14 @@ module _ (s : Settings) (list table : List ℕ) (h : Passing s list table) where
 
     -- two for each record
     pub few_statics : r.statics ≤ length list / 8 * 2
-    few_statics = omega (arith, count_is, ends_same, ends_count list, statics_two list (records list))
+    few_statics = omega (arith, count_is, ends_same s list table h, ends_count list, statics_two list (records list))
 
     -- the words that the count names
     colours_taken : take r.statics now.colours ≡ colours_of s list table
     colours_taken = rw (count_is, w.colours) (over_take (colours_of s list table) held.colours)
 
     ends_taken : take r.statics now.ends ≡ ends_of list
-    ends_taken = rw (count_is, sym ends_same, w.ends) (over_take (ends_of list) held.ends)
+    ends_taken = rw (count_is, sym (ends_same s list table h), w.ends) (over_take (ends_of list) held.ends)
 
     pub written : {v : Verdict} {statics entered : List Static} → v ≡ Passed
         → entered ≡ entries (take r.statics now.colours) (take r.statics now.ends) ++ drop r.statics statics

@@ -16,7 +16,7 @@ use Rattle.walks.specs.Lent.{report}
 use Rattle.mir.proofs.Over.{over_take}
 use Rattle.mir.specs.Answers.{refusal_of, unless}
 use Rattle.file.specs.File.{FileReduced, record_count, layout_of, file_counts, file_reduced, words_verdict}
-use Rattle.file.proofs.FileVerdict.{bad_verdict, accepted, kept_size, kept_few, answered_passed, accepted_preserved}
+use Rattle.file.proofs.FileVerdict.{bad_verdict, accepted, kept_size, kept_few, answered_passed, accepted_preserved, accepted_pools}
 use Rattle.file.proofs.Sections.{well_sections}
 
 module _ {file held : List ℕ} where
@@ -28,6 +28,7 @@ module _ {file held : List ℕ} where
         answer = a;
         out = o;
         preserved = λ v. accepted_preserved (accepted v) (cc (kept_size file, over_take (file_reduced file) held));
+        pools = λ v. accepted_pools (accepted v);
       }
 
   -- of a file that is not well formed

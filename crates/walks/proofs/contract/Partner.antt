@@ -2,20 +2,18 @@
 -- Only register words change, and in kinds 7 and 8 they stand before the location's index.
 use Rattle.std.specs.Prelude.{Option}
 use Prim.Native.Nat.{ℕ, suc, ◌+◌, ◌<◌, ◌≤◌}
-use mathlib.Core.Bool.{Bool, true, false, cond, ◌&&◌}
+use mathlib.Core.Bool.{cond}
 use mathlib.Core.List.{List, [], ◌∷◌, ◌++◌, map, append_assoc}
 use mathlib.Core.Logic.{◌⊎◌, ⊎_elim}
 use mathlib.Core.Path.{◌≡◌, refl, sym, ap, subst, ◌∙◌}
 use native.Mathlib.Decide.{dec_lt}
 use native.Mathlib.Omega.{arith}
-use lib.Dec.{T, leb}
 use lib.ListN.{length, get_or, take, drop, length-append, length-map, length-take, get_or-append}
 use lib.Seq.{get_or-append-add}
-use borrow.Author.Tests.{leb-true}
 use Rattle.mir.specs.Records.{is_gen, word_at}
 use Rattle.mir.specs.Renaming.{one}
 use Rattle.mir.specs.Shapes.{shape_of, shape_for, dests, sources}
-use Rattle.mir.proofs.Shapes.{truth, each_from, by_kind, regs_in_record, regs_after_kind, dests_are, sources_are}
+use Rattle.mir.proofs.Shapes.{regs_in_record, regs_after_kind, dests_are, sources_are}
 use Rattle.passes.specs.Color.{loc_of, source_word}
 use Rattle.theorems.proofs.Lengths.{dests_length, sources_length}
 use Rattle.theorems.proofs.Reduced.{splice_before, splice_after}
@@ -26,17 +24,6 @@ pub dest_words_length : (ws : List ℕ) (n : ℕ) (cs : List ℕ) → length (de
 unfolding dest_words
 dest_words_length [] n cs = refl
 dest_words_length (w ∷ ws) n cs = ap suc (dest_words_length ws (n + one w) cs)
-
--- kinds 7 and 8 have three register words
-few_registers_lem : (k : ℕ) → (leb 7 k && leb k 8) ≡ true → (shape_of k).regs + ((shape_of k).dsts + (shape_of k).srcs) ≤ 4
-unfolding each_from
-few_registers_lem k e =
-    let t = by_kind (λ n s. cond (leb 7 n && leb n 8) (leb (s.regs + (s.dsts + s.srcs)) 4) true) tt (λ n. go (leb 7 n && leb n 8)) k in
-    leb-true _ 4 (truth (leb ((shape_of k).regs + ((shape_of k).dsts + (shape_of k).srcs)) 4) (rw e at t))
-  where
-    go : (b : Bool) → T (cond b true true)
-    go true = tt
-    go false = tt
 
 module _ (regs : List (Option ℕ)) (n : ℕ) (cs rec : List ℕ) (len : length rec ≡ 8) where
   abbrev ws : List ℕ

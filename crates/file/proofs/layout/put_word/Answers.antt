@@ -1,7 +1,7 @@
 -- `file::layout::put_word` meets its contract: the part that is written over holds the word's four bytes.
 -- A run of stores is what was there, with the bytes in their place.
 use Prim.Native.Nat.{◌+◌, ◌-◌}
-use mathlib.Core.Path.{◌≡◌, refl, sym, ◌∙◌}
+use mathlib.Core.Path.{refl, sym, ◌∙◌}
 use lib.ListN.{take, drop}
 use native.Mathlib.Omega.{arith}
 use Rattle.std.proofs.lemmas.List.Edits.{sets-eq, paste_all}

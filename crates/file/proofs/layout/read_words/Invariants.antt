@@ -1,6 +1,6 @@
 -- `file::layout::read_words` meets its contract: the slice starts with the words read.
 -- By the law of one word more.
-use Prim.Native.Nat.{◌-◌, ◌≤◌}
+use Prim.Native.Nat.{◌≤◌}
 use mathlib.Core.Path.{◌≡◌}
 use Rattle.mir.specs.Answers.{over}
 use Rattle.file.specs.File.{words_in}

@@ -1,6 +1,6 @@
 -- `file::layout::write_words` meets its contract: the slice starts with the bytes of the words passed.
 -- By the law of one word more; the loop starts from the slice that the first word is in.
-use Prim.Native.Nat.{◌-◌, ◌≤◌}
+use Prim.Native.Nat.{◌≤◌}
 use mathlib.Core.Path.{◌≡◌}
 use mathlib.Core.List.{◌∷◌}
 use lib.ListN.{length, take}
