@@ -10,13 +10,13 @@ use Rattle.mir.specs.declared.refusal.Refusal.{Refusal}
 use Rattle.mir.specs.Answers.{Verdict, Passed, Refused, Report, answered, refused, unless, left}
 use Rattle.passes.specs.declared.alloc.Outcome.TheVariants.{Kept}
 use Rattle.passes.specs.Contract.{count_of, counts_of}
-use Rattle.passes.specs.Machine.{Preserves}
+use Rattle.passes.specs.Machine.{Keeps}
 use Rattle.passes.specs.Promise.{InFull}
 use Rattle.passes.proofs.InFull.{promise_in_full}
 use Rattle.walks.specs.declared.Counts.{Counts}
 use Rattle.walks.specs.Lent.{Lent, report}
 use Rattle.allocator.specs.InFull.{OptimizedSays, OptimizedWordsSays}
-use Rattle.allocator.specs.Optimize.{LentStatics, Optimized, OptimizedWords, KeepsRuns, KeepsPools, records_in}
+use Rattle.allocator.specs.Optimize.{LentStatics, OptimizedBy, OptimizedWordsBy, records_in, counted_records}
 use Rattle.allocator.proofs.Promise.{first_count}
 
 -- what is answered and left where the verdict passed, and where it refused
@@ -35,16 +35,16 @@ pub stays : {Item : Type 0} {v : Verdict} {now : List Item} (items held : List I
 stays items held h q = h ∙ ap (λ u. left u items held) q
 
 -- the promise of the records that the answer counts
-in_full : (s : Settings) (list table out : List ℕ) (given : Result Counts Refusal) {v : Verdict} → report given ≡ unless v (counts_of s list table)
-    → KeepsRuns v s list given out → KeepsPools v s list table → v ≡ Passed → InFull s list table (take (count_of Kept s list table * 8) out)
-in_full s list table out given answer runs pools q =
+in_full : (v : Verdict) (s : Settings) (list table out : List ℕ) (given : Result Counts Refusal) → report given ≡ unless v (counts_of s list table)
+    → Keeps v s list table (counted_records given out) → v ≡ Passed → InFull s list table (take (count_of Kept s list table * 8) out)
+in_full v s list table out given answer k q =
     let counted : records_in (report given) ≡ count_of Kept s list table = ap records_in (said answer q) ∙ first_count s list table in
-    promise_in_full s list table (take (count_of Kept s list table * 8) out)
-    (subst (λ n. Preserves s list (take (n * 8) out)) counted (runs q)) (pools q)
+    subst (λ n. InFull s list table (take (n * 8) out)) counted
+    (promise_in_full v s list table (counted_records given out) k q)
 
-pub optimized_in_full : (s : Settings) (list table : List ℕ) (held now : LentStatics) (given : Result Counts Refusal)
-    → Optimized s list table held now given → OptimizedSays s list table held now given
-optimized_in_full s list table held now given p =
+pub optimized_in_full : (v : Verdict) (s : Settings) (list table : List ℕ) (held now : LentStatics) (given : Result Counts Refusal)
+    → OptimizedBy v s list table held now given → OptimizedSays v s list table held now given
+optimized_in_full v s list table held now given p =
     record {
       accepted = λ q.
           record {
@@ -52,7 +52,7 @@ optimized_in_full s list table held now given p =
             out = starts _ held.out p.leaves.out q;
             statics = starts _ held.statics p.leaves.statics q;
             set = starts _ held.set p.leaves.set q;
-            promise = in_full s list table now.out given p.leaves.answer p.preserved p.pools q;
+            promise = in_full v s list table now.out given p.leaves.answer p.keeps q;
           };
       rejected = λ number index q.
           record {
@@ -63,9 +63,9 @@ optimized_in_full s list table held now given p =
           };
     }
 
-pub optimized_words_in_full : (s : Settings) (list table : List ℕ) (held now : Lent) (given : Result Counts Refusal)
-    → OptimizedWords s list table held now given → OptimizedWordsSays s list table held now given
-optimized_words_in_full s list table held now given p =
+pub optimized_words_in_full : (v : Verdict) (s : Settings) (list table : List ℕ) (held now : Lent) (given : Result Counts Refusal)
+    → OptimizedWordsBy v s list table held now given → OptimizedWordsSays v s list table held now given
+optimized_words_in_full v s list table held now given p =
     record {
       accepted = λ q.
           record {
@@ -74,7 +74,7 @@ optimized_words_in_full s list table held now given p =
             colours = starts _ held.colours p.leaves.colours q;
             ends = starts _ held.ends p.leaves.ends q;
             set = starts _ held.set p.leaves.set q;
-            promise = in_full s list table now.out given p.leaves.answer p.preserved p.pools q;
+            promise = in_full v s list table now.out given p.leaves.answer p.keeps q;
           };
       rejected = λ number index q.
           record {

@@ -23,14 +23,14 @@ use Rattle.mir.proofs.Renaming.{and_both}
 use Rattle.passes.specs.declared.alloc.Outcome.TheVariants.{Kept}
 use Rattle.passes.specs.Color.{setup}
 use Rattle.passes.specs.Contract.{reduced, count_of, counts_of}
-use Rattle.passes.specs.Machine.{Passing, Preserves}
+use Rattle.passes.specs.Machine.{Passing, Preserves, Keeps}
 use Rattle.theorems.proofs.Lengths.{reduced_length}
 use Rattle.theorems.proofs.NeverEmpty.{pool_never_empty}
 use Rattle.theorems.proofs.Preserved.{list_preserved}
 use Rattle.walks.specs.declared.Counts.{Counts}
 use Rattle.walks.specs.Lent.{Lent, Leaves, report}
 use Rattle.walks.specs.Walks.{Roomy}
-use Rattle.allocator.specs.Optimize.{LentStatics, LeavesStatics, Optimized, OptimizedWords, KeepsRuns, room_for, room_in, room_in_words, verdict_of, verdict_of_words, records_in}
+use Rattle.allocator.specs.Optimize.{LentStatics, LeavesStatics, Optimized, OptimizedWords, room_for, room_in, room_in_words, verdict_of, verdict_of_words, records_in, counted_records}
 
 module _ (s : Settings) (list table : List ℕ) where
   pub reduced_words : length (reduced s list table) ≡ count_of Kept s list table * 8
@@ -45,15 +45,19 @@ module _ (s : Settings) (list table : List ℕ) where
   pub taken : (old : List ℕ) → take (records_in (answered (counts_of s list table)) * 8) (over (reduced s list table) old) ≡ reduced s list table
   taken old = ap (λ n. take n (over (reduced s list table) old)) (ap (λ n. n * 8) first_count ∙ sym reduced_words) ∙ over_take (reduced s list table) old
 
-  -- demand 3, of the records that the answer counts
+  -- what is promised, of the records that the answer counts
   pub keeps : (out : List ℕ) (given : Result Counts Refusal) {v : Verdict} {now : List ℕ} → (v ≡ Passed → Passing s list table)
-      → report given ≡ unless v (counts_of s list table) → now ≡ left v (reduced s list table) out → KeepsRuns v s list given now
-  keeps out given {v} {now} passing answer is q =
-      let starts : now ≡ over (reduced s list table) out = is ∙ ap (λ u. left u (reduced s list table) out) q in
-      let counted : report given ≡ answered (counts_of s list table) = answer ∙ ap (λ u. unless u (counts_of s list table)) q in
-      subst (Preserves s list)
-      (sym (ap (take (records_in (report given) * 8)) starts ∙ (ap (λ a. take (records_in a * 8) (over (reduced s list table) out)) counted ∙ taken out)))
-      (list_preserved s list table (passing q))
+      → report given ≡ unless v (counts_of s list table) → now ≡ left v (reduced s list table) out → Keeps v s list table (counted_records given now)
+  keeps out given {v} {now} passing answer is =
+      record {
+        pools = λ q. pool_never_empty s list table (passing q);
+        runs = λ q.
+            let starts : now ≡ over (reduced s list table) out = is ∙ ap (λ u. left u (reduced s list table) out) q in
+            let counted : report given ≡ answered (counts_of s list table) = answer ∙ ap (λ u. unless u (counts_of s list table)) q in
+            subst (Preserves s list)
+            (sym (ap (counted_records given) starts ∙ (ap (λ a. take (records_in a * 8) (over (reduced s list table) out)) counted ∙ taken out)))
+            (list_preserved s list table (passing q));
+      }
 
 -- a list that passes, whatever the room was
 pub passing_with : (room : Bool) (s : Settings) (list table : List ℕ) → refusal room s list table ≡ Passed → Passing s list table
@@ -111,12 +115,7 @@ module _ (s : Settings) (list table : List ℕ) (held : LentStatics) where
       → Optimized s list table held now given
   unfolding verdict_of
   promised {given = given} w =
-      let passing = passing_with (room_in list table held) s list table in
-      record {
-        leaves = w;
-        preserved = keeps s list table held.out given passing w.answer w.out;
-        pools = λ q. pool_never_empty s list table (passing q);
-      }
+      record { leaves = w; keeps = keeps s list table held.out given (passing_with (room_in list table held) s list table) w.answer w.out }
 
 -- ---- `optimize_words`
 
@@ -136,9 +135,4 @@ module _ (s : Settings) (list table : List ℕ) (held : Lent) where
       → OptimizedWords s list table held now given
   unfolding verdict_of_words
   promised_words {given = given} w =
-      let passing = passing_with (room_in_words list table held) s list table in
-      record {
-        leaves = w;
-        preserved = keeps s list table held.out given passing w.answer w.out;
-        pools = λ q. pool_never_empty s list table (passing q);
-      }
+      record { leaves = w; keeps = keeps s list table held.out given (passing_with (room_in_words list table held) s list table) w.answer w.out }

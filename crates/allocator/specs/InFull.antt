@@ -1,16 +1,16 @@
 -- Public: what `optimize` and `optimize_words` promise, in full: of a list that passes, and of one that is refused. Laws say that all of
--- this follows from the promises.
+-- this follows from the promises, whatever the verdict goes by: so from nothing else.
 use Rattle.std.specs.Prelude.{◌≡◌, ℕ, ◌*◌, List, ◌++◌, Result, length, take, drop}
 use Rattle.mir.specs.declared.config.Settings.{Settings}
 use Rattle.mir.specs.declared.refusal.Refusal.{Refusal}
-use Rattle.mir.specs.Answers.{Passed, Refused, answered, refused}
+use Rattle.mir.specs.Answers.{Verdict, Passed, Refused, answered, refused}
 use Rattle.passes.specs.declared.alloc.Outcome.TheVariants.{Kept}
 use Rattle.passes.specs.Contract.{reduced, colours_of, members_of, words_of, count_of, counts_of}
 use Rattle.passes.specs.Create.{ends_of}
 use Rattle.passes.specs.Promise.{InFull}
 use Rattle.walks.specs.declared.Counts.{Counts}
 use Rattle.walks.specs.Lent.{Lent, report}
-use Rattle.allocator.specs.Optimize.{LentStatics, Optimized, OptimizedWords, verdict_of, verdict_of_words}
+use Rattle.allocator.specs.Optimize.{LentStatics, OptimizedBy, OptimizedWordsBy}
 use Rattle.allocator.specs.Statics.{statics_of}
 
 -- ---- optimize
@@ -31,14 +31,14 @@ pub record Rejected (number index : ℕ) (held now : LentStatics) (given : Resul
   pub statics : now.statics ≡ held.statics
   pub set : now.set ≡ held.set
 
-pub record OptimizedSays (s : Settings) (list table : List ℕ) (held now : LentStatics) (given : Result Counts Refusal) : Type 0 where
-  pub accepted : verdict_of s list table held ≡ Passed → Accepted s list table held now given
-  pub rejected : (number index : ℕ) → verdict_of s list table held ≡ Refused number index → Rejected number index held now given
+pub record OptimizedSays (v : Verdict) (s : Settings) (list table : List ℕ) (held now : LentStatics) (given : Result Counts Refusal) : Type 0 where
+  pub accepted : v ≡ Passed → Accepted s list table held now given
+  pub rejected : (number index : ℕ) → v ≡ Refused number index → Rejected number index held now given
 
 abbrev pub OptimizedInFull : Type 0
 OptimizedInFull =
-    (s : Settings) (list table : List ℕ) (held now : LentStatics) (given : Result Counts Refusal)
-    → Optimized s list table held now given → OptimizedSays s list table held now given
+    (v : Verdict) (s : Settings) (list table : List ℕ) (held now : LentStatics) (given : Result Counts Refusal)
+    → OptimizedBy v s list table held now given → OptimizedSays v s list table held now given
 
 -- ---- optimize_words
 
@@ -58,11 +58,11 @@ pub record RejectedWords (number index : ℕ) (held now : Lent) (given : Result 
   pub ends : now.ends ≡ held.ends
   pub set : now.set ≡ held.set
 
-pub record OptimizedWordsSays (s : Settings) (list table : List ℕ) (held now : Lent) (given : Result Counts Refusal) : Type 0 where
-  pub accepted : verdict_of_words s list table held ≡ Passed → AcceptedWords s list table held now given
-  pub rejected : (number index : ℕ) → verdict_of_words s list table held ≡ Refused number index → RejectedWords number index held now given
+pub record OptimizedWordsSays (v : Verdict) (s : Settings) (list table : List ℕ) (held now : Lent) (given : Result Counts Refusal) : Type 0 where
+  pub accepted : v ≡ Passed → AcceptedWords s list table held now given
+  pub rejected : (number index : ℕ) → v ≡ Refused number index → RejectedWords number index held now given
 
 abbrev pub OptimizedWordsInFull : Type 0
 OptimizedWordsInFull =
-    (s : Settings) (list table : List ℕ) (held now : Lent) (given : Result Counts Refusal)
-    → OptimizedWords s list table held now given → OptimizedWordsSays s list table held now given
+    (v : Verdict) (s : Settings) (list table : List ℕ) (held now : Lent) (given : Result Counts Refusal)
+    → OptimizedWordsBy v s list table held now given → OptimizedWordsSays v s list table held now given

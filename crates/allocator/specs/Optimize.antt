@@ -2,12 +2,10 @@
 use Rattle.std.specs.Prelude.{ℕ, ◌+◌, ◌*◌, ◌/◌, Bool, ◌&&◌, List, Result, ◌≡◌, leb, min, length, get_or, take}
 use Rattle.mir.specs.declared.config.Settings.{Settings}
 use Rattle.mir.specs.Answers.{Verdict}
-use Rattle.mir.specs.Answers as verdict
 use Rattle.mir.specs.Answers.{Report, answered, refused, unless, left}
 use Rattle.mir.specs.Questions.{refusal}
-use Rattle.passes.specs.Color.{PoolsNeverEmpty}
 use Rattle.passes.specs.Contract.{reduced, members_of, words_of, counts_of}
-use Rattle.passes.specs.Machine.{Preserves}
+use Rattle.passes.specs.Machine.{Keeps}
 use Rattle.walks.specs.declared.Counts.{Counts}
 use Rattle.mir.specs.declared.refusal.Refusal.{Refusal}
 use Rattle.walks.specs.Lent.{Lent, Leaves, report}
@@ -48,14 +46,9 @@ abbrev pub records_in : Report → ℕ
 records_in (answered values) = get_or values 0 0
 records_in (refused number index) = 0
 
--- section 5 and request 10: the runs of an accepted list, and those of the first records that the output now holds, as many as
--- the answer counts
-abbrev pub KeepsRuns : Verdict → Settings → List ℕ → Result Counts Refusal → List ℕ → Type 0
-KeepsRuns v s list given out = v ≡ verdict.Passed → Preserves s list (take (records_in (report given) * 8) out)
-
--- section 3: no choice that an accepted list makes finds its pool empty, whatever kinds the list has
-abbrev pub KeepsPools : Verdict → Settings → (list table : List ℕ) → Type 0
-KeepsPools v s list table = v ≡ verdict.Passed → PoolsNeverEmpty s list table
+-- the first records that an output holds, as many as the answer counts
+abbrev pub counted_records : Result Counts Refusal → List ℕ → List ℕ
+counted_records given out = take (records_in (report given) * 8) out
 
 -- by the verdict, what is answered, and what the slices then hold of what they held
 pub record LeavesStatics (v : Verdict) (s : Settings) (list table : List ℕ) (held now : LentStatics) (given : Result Counts Refusal) : Type 0 where
@@ -64,14 +57,18 @@ pub record LeavesStatics (v : Verdict) (s : Settings) (list table : List ℕ) (h
   pub statics : now.statics ≡ left v (statics_of s list table) held.statics
   pub set : now.set ≡ left v (words_of (members_of s list table)) held.set
 
--- the promise of `optimize`, with what the lent slices held and hold
-pub record Optimized (s : Settings) (list table : List ℕ) (held now : LentStatics) (given : Result Counts Refusal) : Type 0 where
-  pub leaves : LeavesStatics (verdict_of s list table held) s list table held now given
-  pub preserved : KeepsRuns (verdict_of s list table held) s list given now.out
-  pub pools : KeepsPools (verdict_of s list table held) s list table
+-- by the verdict: the same, and what is promised of the list and of the records that the output now starts with
+pub record OptimizedBy (v : Verdict) (s : Settings) (list table : List ℕ) (held now : LentStatics) (given : Result Counts Refusal) : Type 0 where
+  pub leaves : LeavesStatics v s list table held now given
+  pub keeps : Keeps v s list table (counted_records given now.out)
 
--- the promise of `optimize_words`
-pub record OptimizedWords (s : Settings) (list table : List ℕ) (held now : Lent) (given : Result Counts Refusal) : Type 0 where
-  pub leaves : Leaves (verdict_of_words s list table held) s list table held now given
-  pub preserved : KeepsRuns (verdict_of_words s list table held) s list given now.out
-  pub pools : KeepsPools (verdict_of_words s list table held) s list table
+pub record OptimizedWordsBy (v : Verdict) (s : Settings) (list table : List ℕ) (held now : Lent) (given : Result Counts Refusal) : Type 0 where
+  pub leaves : Leaves v s list table held now given
+  pub keeps : Keeps v s list table (counted_records given now.out)
+
+-- the promise of `optimize`, and that of `optimize_words`, with what the lent slices held and hold
+abbrev pub Optimized : Settings → (list table : List ℕ) → (held now : LentStatics) → Result Counts Refusal → Type 0
+Optimized s list table held now given = OptimizedBy (verdict_of s list table held) s list table held now given
+
+abbrev pub OptimizedWords : Settings → (list table : List ℕ) → (held now : Lent) → Result Counts Refusal → Type 0
+OptimizedWords s list table held now given = OptimizedWordsBy (verdict_of_words s list table held) s list table held now given

@@ -1,4 +1,4 @@
--- Inner: what the words and the masks say, by cases: bits at both ends of a word, words of locations at their limits, which coloured words
+-- Public: what the words and the masks say, by cases: bits at both ends of a word, words of locations at their limits, which coloured words
 -- are colours; and of two colours, one with a location, what each bit of both masks must be, and that there are such masks.
 use Rattle.std.specs.Prelude.{◌≡◌, true, false, List, [], ◌∷◌, replicate, Some, None}
 use Rattle.passes.specs.declared.alloc.Alloc.{Alloc}

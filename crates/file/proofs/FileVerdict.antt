@@ -1,5 +1,5 @@
 -- The verdict on a file: that of the questions if it is well formed, and otherwise 3 at 0; and what follows if it passed.
--- By these two cases; demand 3 is the theorem, put to the file's list.
+-- By these two cases; what is promised of runs and choices is by the theorems, put to the file's list.
 use Prim.Native.Nat.{ℕ, ◌*◌, ◌≤◌}
 use mathlib.Core.Bool.{Bool, true, false, cond}
 use mathlib.Core.List.{List}
@@ -17,9 +17,9 @@ use Rattle.mir.specs.Records.{records, fixed_mark}
 use Rattle.mir.proofs.Clash.{clash}
 use Rattle.mir.proofs.Passing.{room_passes}
 use Rattle.passes.specs.declared.alloc.Outcome.TheVariants.{Kept}
-use Rattle.passes.specs.Color.{setup, PoolsNeverEmpty}
+use Rattle.passes.specs.Color.{setup}
 use Rattle.passes.specs.Contract.{counts_of, count_of}
-use Rattle.passes.specs.Machine.{Passing, Preserves}
+use Rattle.passes.specs.Machine.{Passing, Keeps}
 use Rattle.theorems.proofs.Lengths.{counts_add}
 use Rattle.theorems.proofs.NeverEmpty.{pool_never_empty}
 use Rattle.theorems.proofs.Preserved.{list_preserved}
@@ -81,11 +81,11 @@ answered_passed room file c a = go (file_verdict room file) a
     go Passed e = (refl, cc)
     go (Refused number index) e = clash (cc)
 
--- the runs, of words that are the reduced list
-pub accepted_preserved : {room : Bool} {file words : List ℕ} → Accepted room file → words ≡ file_reduced file
-    → Preserves (settings_in file) (list_in file) words
-accepted_preserved {file = file} a e = rw e (list_preserved (settings_in file) (list_in file) (table_in file) a.passing)
-
--- and its choices
-pub accepted_pools : {room : Bool} {file : List ℕ} → Accepted room file → PoolsNeverEmpty (settings_in file) (list_in file) (table_in file)
-accepted_pools {file = file} a = pool_never_empty (settings_in file) (list_in file) (table_in file) a.passing
+-- what is promised, of words that are the reduced list
+pub accepted_keeps : {room : Bool} {v : Verdict} {file words : List ℕ} → (v ≡ Passed → Accepted room file) → (v ≡ Passed → words ≡ file_reduced file)
+    → Keeps v (settings_in file) (list_in file) (table_in file) words
+accepted_keeps {file = file} a e =
+    record {
+      pools = λ q. pool_never_empty (settings_in file) (list_in file) (table_in file) (a q).passing;
+      runs = λ q. rw (e q) (list_preserved (settings_in file) (list_in file) (table_in file) (a q).passing);
+    }

@@ -1,18 +1,17 @@
 -- Public, document 01, section 8: the file, made of little-endian words of 32 bits, and what reducing it gives.
-use Rattle.std.specs.Prelude.{ℕ, zero, suc, ◌+◌, ◌*◌, ◌/◌, ◌%◌, ◌^◌, Bool, cond, not, ◌&&◌, List, [], ◌∷◌, ◌++◌, Option, Some, None, Result, ◌≡◌, eqb, leb, length, get_or, take}
+use Rattle.std.specs.Prelude.{ℕ, zero, suc, ◌+◌, ◌*◌, ◌/◌, ◌%◌, ◌^◌, Bool, cond, not, ◌&&◌, List, [], ◌∷◌, ◌++◌, Option, Some, None, Result, ◌≡◌, eqb, leb, length, get_or}
 use Rattle.walks.specs.declared.Counts.{Counts}
 use Rattle.mir.specs.declared.refusal.Refusal.{Refusal}
 use Rattle.mir.specs.Answers.{left}
 use Rattle.walks.specs.Lent.{report}
-use Rattle.allocator.specs.Optimize.{records_in}
+use Rattle.allocator.specs.Optimize.{counted_records}
 use Rattle.mir.specs.declared.config.Settings.{Settings}
 use Rattle.mir.specs.Answers.{Verdict}
-use Rattle.mir.specs.Answers.{Passed, Refused}
+use Rattle.mir.specs.Answers.{Refused}
 use Rattle.mir.specs.Answers.{unless}
 use Rattle.mir.specs.Questions.{refusal}
-use Rattle.passes.specs.Color.{PoolsNeverEmpty}
 use Rattle.passes.specs.Contract.{counts_of, reduced}
-use Rattle.passes.specs.Machine.{Preserves}
+use Rattle.passes.specs.Machine.{Keeps}
 use Rattle.file.specs.declared.layout.Layout.{Layout}
 
 -- word k of bytes, lowest byte first, and n words from word k on
@@ -87,10 +86,12 @@ file_reduced file = reduced (settings_in file) (list_in file) (table_in file)
 abbrev pub words_verdict : List ℕ → List ℕ → Verdict
 words_verdict file held = file_verdict (leb (record_count file * 8) (length held)) file
 
-pub record FileReduced (file held now : List ℕ) (given : Result Counts Refusal) : Type 0 where
-  pub answer : report given ≡ unless (words_verdict file held) (file_counts file)
-  pub out : now ≡ left (words_verdict file held) (file_reduced file) held
-  pub preserved :
-      words_verdict file held ≡ Passed
-      → Preserves (settings_in file) (list_in file) (take (records_in (report given) * 8) now)
-  pub pools : words_verdict file held ≡ Passed → PoolsNeverEmpty (settings_in file) (list_in file) (table_in file)
+-- by the verdict, what is answered and left; and what is promised of the file's list and of the records that the words now start with
+pub record FileReducedBy (v : Verdict) (file held now : List ℕ) (given : Result Counts Refusal) : Type 0 where
+  pub answer : report given ≡ unless v (file_counts file)
+  pub out : now ≡ left v (file_reduced file) held
+  pub keeps : Keeps v (settings_in file) (list_in file) (table_in file) (counted_records given now)
+
+-- the promise of `reduce_file`
+abbrev pub FileReduced : (file held now : List ℕ) → Result Counts Refusal → Type 0
+FileReduced file held now given = FileReducedBy (words_verdict file held) file held now given

@@ -155,12 +155,6 @@ pub gens_fit_more : (n m : ℕ) (rec : List ℕ) → n ≤ m → gens_fit n rec 
 unfolding gens_fit
 gens_fit_more n m rec l h = all_weaker (gen_fits n) (gen_fits m) (λ w. gen_fits_more n m w l) (registers rec) h
 
--- inside a list any default reads the same
-pub get_d_any {ℓ} : {A : Type ℓ} (l : List A) (i : ℕ) (d e : A) → i < length l → get_or l i d ≡ get_or l i e
-get_d_any [] i d e h = absurd (omega arith)
-get_d_any (x ∷ l) zero d e h = refl
-get_d_any (x ∷ l) (suc i) d e h = get_d_any l i d e (omega arith)
-
 -- an element that is set is set in what the list is mapped to
 pub map_set {ℓ ℓ'} : {A : Type ℓ} {B : Type ℓ'} (f : A → B) (l : List A) (i : ℕ) (a : A) → map f (set l i a) ≡ set (map f l) i (f a)
 map_set f [] i a = refl

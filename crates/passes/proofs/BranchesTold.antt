@@ -27,7 +27,7 @@ module _ (s : Settings) where
   at : List (List ℕ) → ℕ → Point Word
   at recs n = steps_to digits (flat recs) (start false) n
 
-  -- list b is not reached in at most n steps, or has another word in Ret there than list a after n
+  -- list b does not reach its end in at most n steps, or has another word in Ret there than list a after n
   told : (a b : List (List ℕ)) (n : ℕ) → EndsIn digits (flat a) (start false) n (at a n).state
       → ((k : ℕ) → k < n + 1 → ended (flat b) (at b k) ≡ true → ((at a n).state.reg ret).number ≡ ((at b k).state.reg ret).number → ⊥)
       → RunsKeepUp s (flat a) (flat b) → ⊥

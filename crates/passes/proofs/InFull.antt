@@ -1,4 +1,4 @@
--- What `Preserves` and `PoolsNeverEmpty` say, in full.
+-- What `Keeps` says, in full.
 -- The choices by their place among the destinations; the runs field by field.
 use Rattle.std.specs.Prelude.{Option, None}
 use Prim.Native.Nat.{ℕ, zero, suc, ◌≤◌, ◌<◌}
@@ -9,11 +9,12 @@ use mathlib.Core.Path.{◌≡◌}
 use lib.ListN.{get_or, take}
 use borrow.Author.Tests.{leb-true}
 use Rattle.mir.specs.declared.config.Settings.{Settings}
+use Rattle.mir.specs.Answers.{Verdict, Passed}
 use Rattle.mir.specs.Records.{is_gen}
 use Rattle.mir.proofs.Clash.{clash}
 use Rattle.passes.specs.declared.symbol.Loc.{Loc}
 use Rattle.passes.specs.Color.{setup, Coloring, colour_at, choice_for, is_found, HasPool, HavePools, after_dest, after_dests, dests_at, color_to, PoolsNeverEmpty}
-use Rattle.passes.specs.Machine.{State, Word, EndsEqual, Preserves}
+use Rattle.passes.specs.Machine.{State, Word, EndsEqual, Keeps}
 use Rattle.passes.specs.Promise.{dest_of, before_dest, EachChoice, EndAlike, InFull}
 
 -- the choice of destination k
@@ -37,12 +38,14 @@ each_choice s list table h i k l g =
 alike : (s : Settings) {a b : State Word} → EndsEqual s a b → EndAlike s a b
 alike s h = record { named = h.named; mem = h.mem; param = h.param; stack = h.stack }
 
-pub promise_in_full : (s : Settings) (list table short : List ℕ) → Preserves s list short → PoolsNeverEmpty s list table → InFull s list table short
-promise_in_full s list table short runs pools =
+pub promise_in_full : (v : Verdict) (s : Settings) (list table short : List ℕ)
+    → Keeps v s list table short → v ≡ Passed → InFull s list table short
+promise_in_full v s list table short k q =
+    let runs = k.runs q in
     record {
-      choices = each_choice s list table pools;
+      choices = each_choice s list table (k.pools q);
       straight = λ h U B F X Y J start. alike s (runs.straight h U B F X Y J start);
       branches = λ h U B F X Y J start n z e.
-          let k = runs.branches h U B F X Y J start n z e in
-          (k.steps, k.end, k.at_most, k.ends, alike s k.equal);
+          let up = runs.branches h U B F X Y J start n z e in
+          (up.steps, up.end, up.at_most, up.ends, alike s up.equal);
     }

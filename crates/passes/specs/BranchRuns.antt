@@ -1,6 +1,6 @@
 -- Public: the machine with branches on small lists: after how many steps each is where, and with what; a loop that runs three times and
--- what it is reduced to; which kinds are covered; and lists that `RunsKeepUp` tells apart. Values are numbers, an operation adds one,
--- and a BranchIf is taken below three, with is_else from three on.
+-- what it is reduced to; which kinds are covered; and lists that `RunsKeepUp` tells apart. In the runs values are numbers,
+-- Uni adds one, and a BranchIf is taken below three, with is_else from three on.
 use Rattle.std.specs.Prelude.{◌≡◌, ℕ, ◌+◌, Bool, true, false, cond, not, List, [], ◌∷◌, map, get_or, eqb, ltb}
 use Rattle.mir.specs.declared.config.Settings.{Settings}
 use Rattle.mir.specs.Answers.{answered, unless}

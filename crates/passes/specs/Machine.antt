@@ -3,12 +3,13 @@
 -- IfElse as request 2 amends it.
 use Rattle.std.specs.Prelude.{ℕ, zero, suc, ◌+◌, ◌<◌, ◌≤◌, ◌^◌, Bool, true, false, cond, ◌&&◌, ◌||◌, not, List, [], ◌∷◌, ◌≡◌, leb, eqb, get_or}
 use Rattle.mir.specs.declared.config.Settings.{Settings}
-use Rattle.mir.specs.Answers.{Passed}
+use Rattle.mir.specs.Answers.{Verdict, Passed}
 use Rattle.mir.specs.Branches.{label_at, label_of}
 use Rattle.mir.specs.Folds.{all_below, last_below}
 use Rattle.mir.specs.Questions.{refusal}
 use Rattle.mir.specs.Records.{records, record_at, word_at, fixed_mark}
 use Rattle.mir.specs.Shapes.{label, branch, branch_if}
+use Rattle.passes.specs.Color.{PoolsNeverEmpty}
 
 -- arbitrary meanings of the operations: a value of an operation and its operands' values, two for ComplexBi, of x1, y1, x2
 -- and y2; of IfElse: a value of the condition's, true_val's and false_val's; and of BranchIf: yes or no, of the condition's
@@ -149,9 +150,12 @@ pub record EndsIn {Value : Type 0} (m : Meaning Value) (list : List ℕ) (start 
 -- ---- section 5's machine
 
 -- a word of 64 bits
+abbrev pub word_limit : ℕ
+word_limit = 2 ^ 64
+
 pub record Word : Type 0 where
   pub number : ℕ
-  pub fits : number < 2 ^ 64
+  pub fits : number < word_limit
 
 -- the test of IfElse, as request 2 has it: a condition's word picks false_val if it is 0 or minus zero, which is
 -- 8000000000000000 in hex, else true_val
@@ -233,7 +237,13 @@ RunsKeepUp s a b =
     (X Y : ℕ → Word → Word → Word → Word → Word) (J : Word → ℕ → Bool) (start : State Word) (n : ℕ) (z : State Word)
     → EndsIn (on_words U B F X Y J) a start n z → KeepsUp s (on_words U B F X Y J) b start n z
 
--- demand 3 of list a and of what it is reduced to, list b
+-- the runs of list a and of what it is reduced to, list b
 pub record Preserves (s : Settings) (a b : List ℕ) : Type 0 where
   pub straight : AllStraight a → RunsEqual s a b
   pub branches : AllCovered a → RunsKeepUp s a b
+
+-- what an operation promises by its verdict, of list a with its table and of what it is reduced to, list b: where it accepts the list,
+-- that no choice finds its pool empty, whatever kinds the list has, and the runs of the two
+pub record Keeps (v : Verdict) (s : Settings) (a table b : List ℕ) : Type 0 where
+  pub pools : v ≡ Passed → PoolsNeverEmpty s a table
+  pub runs : v ≡ Passed → Preserves s a b

@@ -8,7 +8,7 @@ use Rattle.mir.specs.declared.config.Settings.{Settings}
 use Rattle.mir.specs.Records.{flat, fixed_mark}
 use Rattle.passes.specs.Instructions.{stack, mem, param, ret, temp, left, right, load_const, load, save, mov, label, nop, end, uni, bi, fused}
 use Rattle.passes.specs.Instructions.{if_else, load_complex, save_complex, complex_bi, load_math, load_const_math}
-use Rattle.passes.specs.Machine.{Meaning, State, write, store, run, Word, on_words}
+use Rattle.passes.specs.Machine.{Meaning, State, write, store, run, word_limit, Word, on_words}
 use Rattle.passes.specs.Machine.{is_scalar, AllScalar, is_straight, AllStraight, EndsEqual, RunsEqual}
 
 -- ---- words
@@ -18,13 +18,13 @@ pub record WordCases : Type 0 where
   pub below : (w : Word) → w.number < 18446744073709551616
   pub each : (n : ℕ) → n < 18446744073709551616 → (w : Word) × (w.number ≡ n)
 
-unfoldable pub word_of : (n : ℕ) → n < 18446744073709551616 → Word
+unfoldable pub word_of : (n : ℕ) → n < word_limit → Word
 word_of n h = record { number = n; fits = h }
 
 -- ---- lists
 
 unfoldable pub word : ℕ → Word
-word n = word_of (n % 18446744073709551616) (mod-lt n (ltb-true 0 18446744073709551616 refl))
+word n = word_of (n % word_limit) (mod-lt n (ltb-true 0 word_limit refl))
 
 -- Gen registers 10, 11 .., the named ones 20 to 23; Stack 30, 31 .., Mem 40, 41 .., Param 0, 2^32 ..; constants 60, 61 ..
 unfoldable pub start : Bool → State Word

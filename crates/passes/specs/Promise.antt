@@ -1,12 +1,13 @@
--- Public: what is promised of a list that passes and of what it is reduced to, in full, down to each register, cell and choice; and lists
--- that the promise tells apart. Operations promise it by `Preserves` and `PoolsNeverEmpty`; laws say that all of this follows.
+-- Public: what is promised of a list that is accepted and of what it is reduced to, in full, down to each register, cell and choice; and
+-- lists that the promise tells apart. Operations promise it by `Keeps`; laws say that all of this follows from that.
 use Rattle.std.specs.Prelude.{◌≡◌, ℕ, ◌<◌, ◌≤◌, Bool, true, false, List, [], ◌∷◌, ◌⊎◌, take, get_or, Option, None}
 use Rattle.mir.specs.declared.config.Settings.{Settings}
+use Rattle.mir.specs.Answers.{Verdict, Passed}
 use Rattle.mir.specs.Records.{flat, records, is_gen, fixed_mark}
 use Rattle.passes.specs.declared.symbol.Loc.{Loc}
 use Rattle.passes.specs.Color.{Setup, setup, Coloring, colour_at, choice_for, is_found, after_dests, dests_at, color_to, PoolsNeverEmpty}
 use Rattle.passes.specs.Instructions.{mem, ret, mov, load, uni, plus, label, branch_if}
-use Rattle.passes.specs.Machine.{State, Word, on_words, run, EndsIn, AllStraight, AllCovered, Preserves}
+use Rattle.passes.specs.Machine.{State, Word, on_words, run, EndsIn, AllStraight, AllCovered, Preserves, Keeps}
 
 -- ---- the choices
 
@@ -17,7 +18,7 @@ dest_of u i k = get_or (dests_at u i (color_to u i)) k (256, None)
 abbrev pub before_dest : Setup → (i k : ℕ) → Coloring
 before_dest u i k = after_dests u.count i u.ends (take k (dests_at u i (color_to u i))) (color_to u i)
 
--- a Gen destination's choice is found, or a colour below the count is not needed past the record before
+-- a Gen destination's choice is found, or a colour below the count is needed up to this record at most
 abbrev pub EachChoice : Setup → Type 0
 EachChoice u =
     (i k : ℕ) → i < records u.list → is_gen (dest_of u i k).0 ≡ true
@@ -34,15 +35,15 @@ pub record EndAlike (s : Settings) (a b : State Word) : Type 0 where
   pub stack : (i : ℕ) → i < fixed_mark s → a.cell 0 i ≡ b.cell 0 i
 
 -- a list without branches, and what it is reduced to
-abbrev pub RunAlike : Settings → (a b : List ℕ) → Type 0
-RunAlike s a b =
+abbrev pub StraightAlike : Settings → (a b : List ℕ) → Type 0
+StraightAlike s a b =
     (U : ℕ → Word → Word) (B : ℕ → Word → Word → Word) (F : ℕ → Word → Word → Word → Word)
     (X Y : ℕ → Word → Word → Word → Word → Word) (J : Word → ℕ → Bool) (start : State Word)
     → EndAlike s (run (on_words U B F X Y J) a start) (run (on_words U B F X Y J) b start)
 
 -- a list with branches, whose run reaches its end in n steps, in state z: the other's run does so in some number of steps that is at most n
-abbrev pub KeepUp : Settings → (a b : List ℕ) → Type 0
-KeepUp s a b =
+abbrev pub BranchesAlike : Settings → (a b : List ℕ) → Type 0
+BranchesAlike s a b =
     (U : ℕ → Word → Word) (B : ℕ → Word → Word → Word) (F : ℕ → Word → Word → Word → Word)
     (X Y : ℕ → Word → Word → Word → Word → Word) (J : Word → ℕ → Bool) (start : State Word) (n : ℕ) (z : State Word)
     → EndsIn (on_words U B F X Y J) a start n z
@@ -53,20 +54,22 @@ KeepUp s a b =
 -- of a list with its table, and of what it is reduced to
 pub record InFull (s : Settings) (list table short : List ℕ) : Type 0 where
   pub choices : EachChoice (setup s list table)
-  pub straight : AllStraight list → RunAlike s list short
-  pub branches : AllCovered list → KeepUp s list short
+  pub straight : AllStraight list → StraightAlike s list short
+  pub branches : AllCovered list → BranchesAlike s list short
 
--- it follows from what operations promise
+-- it follows from the promise, whatever the verdict goes by and whatever lists these are: so from nothing else
 abbrev pub PromiseInFull : Type 0
-PromiseInFull = (s : Settings) (list table short : List ℕ) → Preserves s list short → PoolsNeverEmpty s list table → InFull s list table short
+PromiseInFull =
+    (v : Verdict) (s : Settings) (list table short : List ℕ)
+    → Keeps v s list table short → v ≡ Passed → InFull s list table short
 
 -- ---- lists that the promise tells apart
 
--- two registers, and one
+-- so many registers, no args and no flag
 abbrev pub with_registers : ℕ → Settings
 with_registers n = record { count_regs = n; args = 0; complex = false; arm = false; compress = false }
 
--- two values that are both needed
+-- two values that a third record needs both
 abbrev pub both_needed : List ℕ
 both_needed = flat (load 0 mem 0 ∷ load 1 mem 1 ∷ plus 0 0 1 ∷ [])
 

@@ -6,12 +6,14 @@ use Rattle.mir.specs.Questions.{refusal}
 use Rattle.passes.specs.Contract.{reduced}
 use Rattle.passes.specs.Instructions.{load_const, load, save, plus, mov, label, stack, mem}
 
+-- with n registers, args 0, not complex, and no table: the reduced list, or the refusal
 unfoldable pub of : ℕ → List ℕ → Report
 of n list = unless (refusal true settings list []) (reduced settings list [])
   where
     settings : Settings
     settings = record { count_regs = n; args = 0; complex = false; arm = false; compress = false }
 
+-- F: a word goes to Stack and back
 unfoldable pub case_f : List ℕ
 case_f =
     load_const 0 0

@@ -89,7 +89,7 @@ pub fn branches_told()
     ensures { BranchesTold }
 {}
 
-// What operations promise by `Preserves` and `PoolsNeverEmpty` says this of each register, cell and choice.
+// What operations promise by `Keeps` says this of each register, cell and choice.
 pub fn promise_in_full()
     ensures { PromiseInFull }
 {}

@@ -1,4 +1,4 @@
-// What reducing a list means: the colours' state, and in specs/ the three passes and the plain machine, held by cases in proofs/. There
+// What reducing a list means: the colours' state, and in specs/ the three passes and the plain machine, held by cases there, which `laws` names. There
 // is no operation here.
 #![tactic(auto)]
 

@@ -12,7 +12,7 @@ use Rattle.passes.proofs.InFull.{promise_in_full}
 use Rattle.walks.specs.Lent.{Lent}
 use Rattle.allocator.proofs.InFull.{starts, stays}
 use Rattle.file.specs.File.{words_in, settings_in, table_in, list_in, file_counts}
-use Rattle.rudzaviks.specs.Exports.{RudzaviksOptimize, RudzaviksReduce, report_word, records_word}
+use Rattle.rudzaviks.specs.Exports.{RudzaviksOptimizeBy, RudzaviksReduceBy, report_word, records_word}
 use Rattle.rudzaviks.specs.InFull.{OptimizeSays, ReduceSays}
 
 -- the word where the verdict passed, and where it refused
@@ -25,9 +25,9 @@ refused_word : {v : Verdict} (values : List ℕ) {given number index : ℕ} → 
     → v ≡ Refused number index → given ≡ number * 2 ^ 32 + index
 refused_word values h q = h ∙ ap (λ u. report_word records_word (unless u values)) q
 
-pub optimize_in_full : (s : Settings) (list table : List ℕ) (held : Lent) (held_counts : List ℕ) (now : Lent) (now_counts : List ℕ) (given : ℕ)
-    → RudzaviksOptimize s list table held held_counts now now_counts given → OptimizeSays s list table held held_counts now now_counts given
-optimize_in_full s list table held held_counts now now_counts given p =
+pub optimize_in_full : (v : Verdict) (s : Settings) (list table : List ℕ) (held : Lent) (held_counts : List ℕ) (now : Lent) (now_counts : List ℕ) (given : ℕ)
+    → RudzaviksOptimizeBy v s list table held held_counts now now_counts given → OptimizeSays v s list table held held_counts now now_counts given
+optimize_in_full v s list table held held_counts now now_counts given p =
     record {
       accepted = λ q.
           record {
@@ -37,7 +37,7 @@ optimize_in_full s list table held held_counts now now_counts given p =
             ends = starts _ held.ends p.ends q;
             set = starts _ held.set p.set q;
             counts = starts _ held_counts p.counts q;
-            promise = promise_in_full s list table (take (given * 8) now.out) (p.preserved q) (p.pools q);
+            promise = promise_in_full v s list table (take (given * 8) now.out) p.keeps q;
           };
       rejected = λ number index q.
           record {
@@ -50,15 +50,15 @@ optimize_in_full s list table held held_counts now now_counts given p =
           };
     }
 
-pub reduce_in_full : (file held now : List ℕ) (given : ℕ) → RudzaviksReduce file held now given → ReduceSays file held now given
-reduce_in_full file held now given p =
+pub reduce_in_full : (v : Verdict) (file held now : List ℕ) (given : ℕ) → RudzaviksReduceBy v file held now given → ReduceSays v file held now given
+reduce_in_full v file held now given p =
     record {
       accepted = λ q.
           record {
             word = records_said (settings_in file) (list_in file) (table_in file) p.word q;
             out = starts _ held p.out q;
             promise =
-                promise_in_full (settings_in file) (list_in file) (table_in file) (words_in now 1 (given * 8)) (p.preserved q) (p.pools q);
+                promise_in_full v (settings_in file) (list_in file) (table_in file) (words_in now 1 (given * 8)) p.keeps q;
           };
       rejected = λ number index q. record { word = refused_word (file_counts file) p.word q; out = stays _ held p.out q };
     }

@@ -22,25 +22,27 @@ use Rattle.std.specs.Prelude.{Some, None, Result, Ok}
 use Rattle.file.specs.declared.layout.Layout.{Layout}
 use Rattle.mir.specs.declared.refusal.Refusal.{Refusal}
 use Rattle.rudzaviks.specs.Exports.{RudzaviksReduce, refusal_word, report_word, records_word, file_words, bytes_verdict}
-use Rattle.file.specs.File.{bytes_of, record_count, layout_of, file_verdict, file_counts, file_reduced}
+use Rattle.file.specs.File.{words_in, bytes_of, record_count, layout_of, file_verdict, file_counts, file_reduced}
 use Rattle.file.proofs.layout.Bytes.{words_back}
-use Rattle.file.proofs.FileVerdict.{bad_verdict, accepted, kept, kept_size, kept_few, answered_passed, accepted_preserved, accepted_pools}
+use Rattle.file.proofs.FileVerdict.{bad_verdict, accepted, kept, kept_size, kept_few, answered_passed, accepted_keeps}
 use Rattle.file.proofs.Sections.{Sections, sections}
 use Rattle.file.proofs.WordBounds.{reduced_small}
 
 bytes_promise : {file held now : List ℕ} {given : ℕ} → given ≡ report_word records_word (unless (bytes_verdict file held) (file_counts file))
     → now ≡ left (bytes_verdict file held) (bytes_of (file_words file)) held → RudzaviksReduce file held now given
 unfolding counts_of
-bytes_promise {file} {held} a o =
+bytes_promise {file} {held} {now} {given} a o =
     record {
       word = a;
       out = o;
-      preserved = λ v.
-          let p = accepted v in
-          let rest = drop (length (bytes_of (file_words file))) held in
-          accepted_preserved p (cc (kept_size file, words_back (kept file) (file_reduced file) rest (reduced_small _ _ _ p.passing)));
-      pools = λ v. accepted_pools (accepted v);
+      keeps = accepted_keeps accepted words_are;
     }
+  where
+    -- the records that the bytes now hold
+    words_are : bytes_verdict file held ≡ Passed → words_in now 1 (given * 8) ≡ file_reduced file
+    words_are v =
+        let rest = drop (length (bytes_of (file_words file))) held in
+        cc (kept_size file, words_back (kept file) (file_reduced file) rest (reduced_small _ _ _ (accepted v).passing))
 
 -- ---- a refusal
 

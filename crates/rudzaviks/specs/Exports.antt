@@ -6,15 +6,13 @@ use Rattle.mir.specs.Answers.{left}
 use Rattle.allocator.specs.Optimize.{room_in_words}
 use Rattle.mir.specs.declared.config.Settings.{Settings}
 use Rattle.mir.specs.Answers.{Verdict}
-use Rattle.mir.specs.Answers.{Passed}
 use Rattle.mir.specs.Answers.{Report, answered, refused, unless}
 use Rattle.survey.specs.Beside.{parts}
 use Rattle.mir.specs.Questions.{refusal, refusal_beside}
 use Rattle.passes.specs.declared.alloc.Outcome.TheVariants.{Kept}
-use Rattle.passes.specs.Color.{PoolsNeverEmpty}
 use Rattle.passes.specs.Contract.{counts_of, count_of, words_of, reduced, colours_of, members_of}
 use Rattle.passes.specs.Create.{ends_of}
-use Rattle.passes.specs.Machine.{Preserves}
+use Rattle.passes.specs.Machine.{Keeps}
 use Rattle.file.specs.File.{words_in, bytes_of, settings_in, table_in, record_count, list_in, file_verdict, file_counts, file_reduced}
 
 -- number and index
@@ -55,19 +53,23 @@ records_word values = get_or values 0 0
 unfoldable pub verdict_with : Settings → List ℕ → List ℕ → Lent → List ℕ → Verdict
 verdict_with s list table held counts = refusal (room_in_words list table held && leb 8 (length counts)) s list table
 
--- the promise, with what the lent slices held and hold
-pub record RudzaviksOptimize (s : Settings) (list table : List ℕ) (held : Lent) (held_counts : List ℕ) (now : Lent)
+-- by the verdict, the word and what the lent slices then hold; and what is promised of the list and of the first records that the output
+-- now holds, as many as the word says
+pub record RudzaviksOptimizeBy (v : Verdict) (s : Settings) (list table : List ℕ) (held : Lent) (held_counts : List ℕ) (now : Lent)
     (now_counts : List ℕ) (given : ℕ) : Type 0 where
-  pub word : given ≡ report_word records_word (unless (verdict_with s list table held held_counts) (counts_of s list table))
-  pub out : now.out ≡ left (verdict_with s list table held held_counts) (reduced s list table) held.out
-  pub colours : now.colours ≡ left (verdict_with s list table held held_counts) (colours_of s list table) held.colours
-  pub ends : now.ends ≡ left (verdict_with s list table held held_counts) (ends_of list) held.ends
-  pub set : now.set ≡ left (verdict_with s list table held held_counts) (words_of (members_of s list table)) held.set
-  pub counts : now_counts ≡ left (verdict_with s list table held held_counts) (counts_of s list table) held_counts
-  pub preserved :
-      verdict_with s list table held held_counts ≡ Passed
-      → Preserves s list (take (given * 8) now.out)
-  pub pools : verdict_with s list table held held_counts ≡ Passed → PoolsNeverEmpty s list table
+  pub word : given ≡ report_word records_word (unless v (counts_of s list table))
+  pub out : now.out ≡ left v (reduced s list table) held.out
+  pub colours : now.colours ≡ left v (colours_of s list table) held.colours
+  pub ends : now.ends ≡ left v (ends_of list) held.ends
+  pub set : now.set ≡ left v (words_of (members_of s list table)) held.set
+  pub counts : now_counts ≡ left v (counts_of s list table) held_counts
+  pub keeps : Keeps v s list table (take (given * 8) now.out)
+
+-- the promise
+abbrev pub RudzaviksOptimize : Settings → (list table : List ℕ) → (held : Lent) → (held_counts : List ℕ) → (now : Lent)
+    → (now_counts : List ℕ) → (given : ℕ) → Type 0
+RudzaviksOptimize s list table held held_counts now now_counts given =
+    RudzaviksOptimizeBy (verdict_with s list table held held_counts) s list table held held_counts now now_counts given
 
 -- ---- rudzaviks_reduce
 
@@ -79,12 +81,13 @@ bytes_verdict file held = file_verdict (leb (4 + record_count file * 32) (length
 abbrev pub file_words : List ℕ → List ℕ
 file_words file = count_of Kept (settings_in file) (list_in file) (table_in file) ∷ file_reduced file
 
--- the promise, with what the lent bytes held and hold
-pub record RudzaviksReduce (file held now : List ℕ) (given : ℕ) : Type 0 where
-  pub word : given ≡ report_word records_word (unless (bytes_verdict file held) (file_counts file))
-  pub out : now ≡ left (bytes_verdict file held) (bytes_of (file_words file)) held
-  -- section 5 and request 10 again, over what the bytes hold
-  pub preserved :
-      bytes_verdict file held ≡ Passed
-      → Preserves (settings_in file) (list_in file) (words_in now 1 (given * 8))
-  pub pools : bytes_verdict file held ≡ Passed → PoolsNeverEmpty (settings_in file) (list_in file) (table_in file)
+-- by the verdict, the word and what the lent bytes then hold; and what is promised of the file's list and of the records that the bytes
+-- now hold
+pub record RudzaviksReduceBy (v : Verdict) (file held now : List ℕ) (given : ℕ) : Type 0 where
+  pub word : given ≡ report_word records_word (unless v (file_counts file))
+  pub out : now ≡ left v (bytes_of (file_words file)) held
+  pub keeps : Keeps v (settings_in file) (list_in file) (table_in file) (words_in now 1 (given * 8))
+
+-- the promise
+abbrev pub RudzaviksReduce : (file held now : List ℕ) → (given : ℕ) → Type 0
+RudzaviksReduce file held now given = RudzaviksReduceBy (bytes_verdict file held) file held now given

@@ -1,8 +1,8 @@
 -- Public: what `rudzaviks_optimize` and `rudzaviks_reduce` promise, in full: of a list or file that passes, and of one that is refused.
--- Laws say that all of this follows from the promises.
+-- Laws say that all of this follows from the promises, whatever the verdict goes by: so from nothing else.
 use Rattle.std.specs.Prelude.{◌≡◌, ℕ, ◌+◌, ◌*◌, ◌^◌, List, ◌++◌, length, take, drop}
 use Rattle.mir.specs.declared.config.Settings.{Settings}
-use Rattle.mir.specs.Answers.{Passed, Refused}
+use Rattle.mir.specs.Answers.{Verdict, Passed, Refused}
 use Rattle.passes.specs.declared.alloc.Outcome.TheVariants.{Kept}
 use Rattle.passes.specs.Contract.{reduced, colours_of, members_of, words_of, count_of, counts_of}
 use Rattle.passes.specs.Create.{ends_of}
@@ -10,7 +10,7 @@ use Rattle.passes.specs.Promise.{InFull}
 use Rattle.walks.specs.Lent.{Lent}
 use Rattle.file.specs.File.{words_in, bytes_of, settings_in, table_in, list_in}
 use Rattle.file.specs.InFull.{kept_in}
-use Rattle.rudzaviks.specs.Exports.{RudzaviksOptimize, verdict_with, RudzaviksReduce, bytes_verdict, file_words}
+use Rattle.rudzaviks.specs.Exports.{RudzaviksOptimizeBy, RudzaviksReduceBy, file_words}
 
 -- ---- rudzaviks_optimize
 
@@ -31,16 +31,16 @@ pub record RejectedList (number index : ℕ) (held : Lent) (held_counts : List �
   pub set : now.set ≡ held.set
   pub counts : now_counts ≡ held_counts
 
-pub record OptimizeSays (s : Settings) (list table : List ℕ) (held : Lent) (held_counts : List ℕ) (now : Lent) (now_counts : List ℕ) (given : ℕ) : Type 0 where
-  pub accepted : verdict_with s list table held held_counts ≡ Passed → AcceptedList s list table held held_counts now now_counts given
+pub record OptimizeSays (v : Verdict) (s : Settings) (list table : List ℕ) (held : Lent) (held_counts : List ℕ) (now : Lent) (now_counts : List ℕ) (given : ℕ) : Type 0 where
+  pub accepted : v ≡ Passed → AcceptedList s list table held held_counts now now_counts given
   pub rejected :
-      (number index : ℕ) → verdict_with s list table held held_counts ≡ Refused number index
+      (number index : ℕ) → v ≡ Refused number index
       → RejectedList number index held held_counts now now_counts given
 
 abbrev pub OptimizeInFull : Type 0
 OptimizeInFull =
-    (s : Settings) (list table : List ℕ) (held : Lent) (held_counts : List ℕ) (now : Lent) (now_counts : List ℕ) (given : ℕ)
-    → RudzaviksOptimize s list table held held_counts now now_counts given → OptimizeSays s list table held held_counts now now_counts given
+    (v : Verdict) (s : Settings) (list table : List ℕ) (held : Lent) (held_counts : List ℕ) (now : Lent) (now_counts : List ℕ) (given : ℕ)
+    → RudzaviksOptimizeBy v s list table held held_counts now now_counts given → OptimizeSays v s list table held held_counts now now_counts given
 
 -- ---- rudzaviks_reduce
 
@@ -53,9 +53,9 @@ pub record RejectedBytes (number index : ℕ) (held now : List ℕ) (given : ℕ
   pub word : given ≡ number * 2 ^ 32 + index
   pub out : now ≡ held
 
-pub record ReduceSays (file held now : List ℕ) (given : ℕ) : Type 0 where
-  pub accepted : bytes_verdict file held ≡ Passed → AcceptedBytes file held now given
-  pub rejected : (number index : ℕ) → bytes_verdict file held ≡ Refused number index → RejectedBytes number index held now given
+pub record ReduceSays (v : Verdict) (file held now : List ℕ) (given : ℕ) : Type 0 where
+  pub accepted : v ≡ Passed → AcceptedBytes file held now given
+  pub rejected : (number index : ℕ) → v ≡ Refused number index → RejectedBytes number index held now given
 
 abbrev pub ReduceInFull : Type 0
-ReduceInFull = (file held now : List ℕ) (given : ℕ) → RudzaviksReduce file held now given → ReduceSays file held now given
+ReduceInFull = (v : Verdict) (file held now : List ℕ) (given : ℕ) → RudzaviksReduceBy v file held now given → ReduceSays v file held now given

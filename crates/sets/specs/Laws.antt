@@ -1,4 +1,4 @@
--- Inner: how many members a walk of the index passes, whatever the list.
+-- Public: how many members a walk of the index passes, whatever the list.
 use Rattle.std.specs.Prelude.{ℕ, ◌+◌, ◌<◌, ◌≤◌, List}
 use Rattle.passes.specs.declared.symbol.Loc.{Loc}
 use Rattle.sets.specs.declared.ReadSet.{ReadSet}

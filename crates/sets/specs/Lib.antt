@@ -1,4 +1,4 @@
--- Inner: no promise is made in these words.
+-- Inner: no promise is made in these words. Laws and SetCases are public: what the laws say of them.
 pub mod Sets
 pub mod Members
 pub mod Laws

@@ -1,4 +1,4 @@
--- Inner: the index's definitions at their limits: heads, keys, links, walks to a member or to no link, and what they pass.
+-- Public: the index's definitions at their limits: heads, keys, links, walks to a member or to no link, and what they pass.
 use Rattle.std.specs.Prelude.{◌≡◌, ℕ, zero, suc, ◌+◌, ◌*◌, List, [], ◌∷◌, get_or}
 use Rattle.passes.specs.declared.symbol.Loc.{Loc}
 use Rattle.passes.specs.Color.{loc}

@@ -1,4 +1,5 @@
--- Public: the original's pair, `used_registers` and `populate_labels`: the parts of a survey are what the two give. Its first two values,
+-- Public: the original's pair, `used_registers` and `populate_labels`, each with a survey's questions put first: the parts of a survey are
+-- what the two give. Its first two values,
 -- or its refusal, are the answer of the one, and the others, or its refusal, that of the other.
 use Rattle.std.specs.Prelude.{◌≡◌, ℕ, Bool, List, [], ◌∷◌, length, take, drop}
 use Rattle.std.specs.Int.Count.{ones_in}

@@ -2,7 +2,7 @@
 ghost use Rattle.survey.specs.Pair.{SurveyParts};
 ghost use Rattle.survey.specs.SurveyCases.{SurveyCases};
 
-// The parts of a survey are what the original's pair gives.
+// The parts of a survey are what the original's pair gives, asked as a survey is.
 pub fn survey_parts()
     ensures { SurveyParts }
 {}

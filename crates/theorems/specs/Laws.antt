@@ -1,6 +1,7 @@
 -- Public: what holds of each list that passes, of the list that it is reduced to, and of their runs.
-use Rattle.std.specs.Prelude.{◌≡◌, ℕ, ◌+◌, ◌*◌, ◌/◌, ◌<◌, ◌≤◌, false, List, [], ◌∷◌, length, get_or, eqb}
+use Rattle.std.specs.Prelude.{◌≡◌, ℕ, ◌+◌, ◌*◌, ◌/◌, ◌<◌, ◌≤◌, true, false, List, [], ◌∷◌, length, get_or, eqb}
 use Rattle.mir.specs.declared.config.Settings.{Settings}
+use Rattle.mir.specs.Branches.{label_at, is_branch, label_of}
 use Rattle.mir.specs.Questions.{shape_no}
 use Rattle.mir.specs.Records.{records, record_at, word_at, fixed_mark}
 use Rattle.mir.specs.Renaming.{statics_to}
@@ -38,7 +39,7 @@ StraightRuns Value =
     (m : Meaning Value) (list : List ℕ) (start : State Value) → AllStraight list
     → (n : ℕ) × (n ≤ records list) × EndsIn m list start n (run m list start)
 
--- both over words, as the operations promise it
+-- the two claims on a list and its reduced list, over words, as the operations promise them
 abbrev pub ListPreserved : Type 0
 ListPreserved = (s : Settings) (list table : List ℕ) → Passing s list table → Preserves s list (reduced s list table)
 
@@ -53,6 +54,14 @@ abbrev pub StaleEnd : Type 0
 StaleEnd =
     (s : Settings) (list table : List ℕ) → Passing s list table
     → (i t : ℕ) → i < records list → word_at (record_at list i) 0 ≡ branch_if → t < statics_to list i → get_or (ends_of list) t 0 ≤ i
+
+-- each branch goes to a Label of its number
+abbrev pub TargetLabel : Type 0
+TargetLabel =
+    (s : Settings) (list table : List ℕ) → Passing s list table
+    → (i : ℕ) → i < records list → is_branch (record_at list i) ≡ true
+    → (target list (label_of (record_at list i)) < records list)
+    × (label_at list (label_of (record_at list i)) (target list (label_of (record_at list i))) ≡ true)
 
 -- a branch of the reduced list goes to where the list's branch goes, by how many records before it are kept
 abbrev pub TargetSame : Type 0

@@ -28,5 +28,9 @@ joins_by_x u i st =
     let rec = record_at u.list i in
     reads (shape_for rec).action (x_found u i (dests_at u i st) st) (loc_of rec) (pairs_from u.table (word_at rec 1) (word_at rec 2)) (not (eqb (shape_for rec).loc 0))
 
+-- whatever joins, and so by that rule
+abbrev pub SameColours : Type 0
+SameColours = (u : Setup) (joins : ℕ → Coloring → List Loc) (i : ℕ) → Alike (color_by u joins i) (color_to u i)
+
 abbrev pub RuleMovesNoColour : Type 0
 RuleMovesNoColour = (u : Setup) (i : ℕ) → Alike (color_by u (joins_by_x u) i) (color_to u i)

@@ -1,6 +1,6 @@
 // What is proved of reducing. A law is a function without parameters, and its clause is the theorem.
-ghost use Rattle.theorems.specs.Laws.{PoolNeverEmpty, ListsKeepUp, ListsEndEqual, StraightRuns, ListPreserved, ScalarIsStraight, StaleEnd, TargetSame, OutLength, ReducedLength, CountsAdd, OutPasses, ReducedPasses, EndsSame, FewMembers, MembersOnce, FullestFits, FullestNone};
-ghost use Rattle.theorems.specs.Rule.{RuleMovesNoColour};
+ghost use Rattle.theorems.specs.Laws.{PoolNeverEmpty, ListsKeepUp, ListsEndEqual, StraightRuns, ListPreserved, ScalarIsStraight, StaleEnd, TargetLabel, TargetSame, OutLength, ReducedLength, CountsAdd, OutPasses, ReducedPasses, EndsSame, FewMembers, MembersOnce, FullestFits, FullestNone};
+ghost use Rattle.theorems.specs.Rule.{SameColours, RuleMovesNoColour};
 
 // On a list that passes, of any kinds, no choice finds its pool empty.
 pub fn pool_never_empty()
@@ -22,7 +22,7 @@ pub fn straight_runs<Value>()
     ensures { StraightRuns Value }
 {}
 
-// Both over words.
+// A list and its reduced list over words, as the operations promise it.
 pub fn list_preserved()
     ensures { ListPreserved }
 {}
@@ -35,6 +35,11 @@ pub fn scalar_is_straight()
 // What was written before a BranchIf is not read past it.
 pub fn stale_end()
     ensures { StaleEnd }
+{}
+
+// Each branch goes to a Label of its number.
+pub fn target_label()
+    ensures { TargetLabel }
 {}
 
 // A branch of the reduced list goes where the list's branch goes.
@@ -92,7 +97,12 @@ pub fn fullest_none()
     ensures { FullestNone }
 {}
 
-// The rule on two-part loads moves no colour.
+// Whatever joins the read set, the colours are the same.
+pub fn same_colours()
+    ensures { SameColours }
+{}
+
+// The rule on what two-part loads read moves no colour.
 pub fn rule_moves_no_colour()
     ensures { RuleMovesNoColour }
 {}

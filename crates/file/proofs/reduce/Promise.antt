@@ -1,5 +1,5 @@
 -- The promise of `reduce_file`, and that a file so reduced has few records.
--- Demand 3 is the theorem, put to the words that the output starts with.
+-- The runs are by the theorem, put to the words that the output starts with.
 use Prim.Native.Nat.{ℕ, ◌*◌, ◌≤◌}
 use mathlib.Core.List.{List}
 use mathlib.Core.Path.{◌≡◌}
@@ -16,7 +16,7 @@ use Rattle.walks.specs.Lent.{report}
 use Rattle.mir.proofs.Over.{over_take}
 use Rattle.mir.specs.Answers.{refusal_of, unless}
 use Rattle.file.specs.File.{FileReduced, record_count, layout_of, file_counts, file_reduced, words_verdict}
-use Rattle.file.proofs.FileVerdict.{bad_verdict, accepted, kept_size, kept_few, answered_passed, accepted_preserved, accepted_pools}
+use Rattle.file.proofs.FileVerdict.{bad_verdict, accepted, kept_size, kept_few, answered_passed, accepted_keeps}
 use Rattle.file.proofs.Sections.{well_sections}
 
 module _ {file held : List ℕ} where
@@ -27,8 +27,7 @@ module _ {file held : List ℕ} where
       record {
         answer = a;
         out = o;
-        preserved = λ v. accepted_preserved (accepted v) (cc (kept_size file, over_take (file_reduced file) held));
-        pools = λ v. accepted_pools (accepted v);
+        keeps = accepted_keeps accepted (λ v. cc (kept_size file, over_take (file_reduced file) held));
       }
 
   -- of a file that is not well formed
