@@ -10,7 +10,7 @@ use std::ptr::null_mut;
 use std::slice;
 
 use harness::file::{encode, room};
-use harness::kinds::{branch, branch_if, label, load_const, mov, nop, RET};
+use harness::kinds::{branch, branch_if, label, load_args, load_const, mov, nop, RET};
 use harness::limits::{MOST_PAIRS, MOST_RECORDS};
 use harness::lists::{list, List, Profile};
 use harness::random::Random;
@@ -168,15 +168,48 @@ fn a_refusal_takes_what_its_class_does() {
     }
 }
 
+/// A list that passes and names all pairs of its table, in the first record that does nothing or
+/// names pairs.
+fn naming_all(records: usize, pairs: usize) -> List {
+    let mut list = passing_with(records, pairs);
+    let (nothing, names) = (nop()[0], load_args(0, 0, 0, 0)[0]);
+    let place = (0..records).find(|at| [nothing, names].contains(&list.record(*at)[0]));
+    let at = place.expect("some record of so many does nothing or names pairs");
+    list.record_mut(at).copy_from_slice(&load_args(0, pairs as u32, 0, 0));
+    list
+}
+
+/// The longest set of a shorter class: a list whose records alone don't need more takes what that
+/// class does unless it names its pairs.
+const BELOW: [Option<usize>; 3] = [None, Some(3_072), Some(20_480)];
+
 #[test]
 fn a_reduced_list_takes_what_its_class_does() {
-    for (most, lists) in REDUCED {
+    for ((most, lists), below) in REDUCED.into_iter().zip(BELOW) {
         for (records, pairs) in lists {
             let what = format!("{records} records, {pairs} pairs");
-            let list = passing_with(*records, *pairs);
-            let word = optimize(&what, most * 7 / 8, most, &list);
-            assert!(word <= *records as u64, "{word:#x}");
+            let mut reduce = |least, list: List| {
+                let word = optimize(&what, least, most, &list);
+                assert!(word <= *records as u64, "{word:#x}");
+            };
+            if below.is_some_and(|longest| records * 4 <= longest) {
+                reduce(0, passing_with(*records, *pairs));
+                reduce(most * 7 / 8, naming_all(*records, *pairs));
+            } else {
+                reduce(most * 7 / 8, passing_with(*records, *pairs));
+            }
         }
+    }
+}
+
+/// A table that a list doesn't name from makes it take no more.
+#[test]
+fn a_table_that_is_not_named_takes_nothing() {
+    for records in [0, 1, 64] {
+        let plain = passing(records);
+        let list = List { table: vec![0; 2 * MOST_PAIRS], ..plain };
+        let word = optimize("a long table", 0, REDUCED[0].0, &list);
+        assert!(word <= records as u64, "{word:#x}");
     }
 }
 

@@ -14,8 +14,7 @@ use Rattle.mir.specs.declared.config.Settings.{Settings}
 use Rattle.mir.specs.declared.refusal.Refusal.{Refusal}
 use Rattle.mir.specs.Answers.{Verdict, Passed, Refused, answered, unless, over, left}
 use Rattle.mir.specs.Folds.{or_else}
-use Rattle.mir.specs.Inner.{start_refusal, list_refusal}
-use Rattle.mir.specs.Questions.{refusal}
+use Rattle.mir.specs.Questions.{refusal, start_refusal, list_refusal}
 use Rattle.mir.specs.Records.{records, fixed_mark}
 use Rattle.mir.proofs.Over.{over_take}
 use Rattle.mir.proofs.Passing.{room_passes, start_passes, refusal_parts, refusal_after}

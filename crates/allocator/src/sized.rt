@@ -2,11 +2,12 @@
 // them. A list takes the space of its class and no more.
 ghost use Rattle.std.specs.Prelude.{◌*◌, ◌/◌, ◌≤◌, ◌≡◌, true, length};
 ghost use Rattle.mir.specs.Answers as verdict;
-ghost use Rattle.mir.specs.Inner.{start_refusal, list_refusal};
+ghost use Rattle.mir.specs.Questions.{start_refusal, list_refusal};
 ghost use Rattle.walks.specs.Walks.{Roomy};
 ghost use Rattle.allocator.specs.Optimize.{LeavesStatics, lent_statics};
 
 use crate::statics::{Static, write_statics};
+use lives::ask_first;
 use mir::config::Settings;
 use mir::refusal::Refusal;
 use walks::{Counts, reduce};
@@ -64,6 +65,7 @@ fn reduce_in<const N: usize>(
 }
 
 // A list that passes questions 1 to 4 is asked the others and reduced, in the space of its class: two words of each kind for a record.
+// A long one whose first records do not pass takes none.
 pub fn reduce_sized(
     list: &[u32],
     table: &[u32],
@@ -78,8 +80,10 @@ pub fn reduce_sized(
 {
     let records = list.len() / 8;
     if records <= 768 {
-        reduce_in::<1_536>(list, table, settings, out, statics, set)
-    } else if records <= 5_120 {
+        return reduce_in::<1_536>(list, table, settings, out, statics, set);
+    }
+    ask_first(list, table, settings.count_regs)?;
+    if records <= 5_120 {
         reduce_in::<10_240>(list, table, settings, out, statics, set)
     } else {
         reduce_in::<131_072>(list, table, settings, out, statics, set)

@@ -16,10 +16,11 @@ use Rattle.mir.proofs.Passing.{ListPasses}
 use Rattle.mir.specs.declared.rename.Renaming.{Renaming}
 use Rattle.mir.proofs.Renaming.{statics_two}
 use Rattle.passes.specs.Color.{setup, loc_of, joined, found_at, color_to, fullest_at}
+use Rattle.passes.specs.Contract.{members_of}
 use Rattle.passes.specs.Create.{ends_of}
 use Rattle.theorems.proofs.Create.{ends_fit}
-use Rattle.theorems.proofs.ReadSet.{reads_at, members_next}
-use Rattle.theorems.proofs.Members.{few_members}
+use Rattle.theorems.proofs.ReadSet.{reads_at, members_next, joined_grows}
+use Rattle.theorems.proofs.Members.{members_grow}
 use Rattle.theorems.proofs.NeverEmpty.{ready_to}
 use Rattle.colours.specs.declared.allocs.Allocs.{Allocs}
 use Rattle.colours.specs.Masks.{Expired}
@@ -29,7 +30,7 @@ use Rattle.coloring.proofs.Dests.{marked_length, lent_are}
 use Rattle.mir.proofs.Over.{over_length}
 use Rattle.sets.specs.declared.ReadSet.{ReadSet}
 use Rattle.sets.specs.Members.{members_in, SetHolds}
-use Rattle.sets.proofs.Pairs.{holds_length, holds_more, joined_grows}
+use Rattle.sets.proofs.Pairs.{holds_length, holds_more}
 use Rattle.coloring.specs.Walk.{State, state, Holds, Called, Colouring, slices_at}
 use Rattle.coloring.proofs.Record.{sources_fit, sources_due, record_ready, record_step_lem, record_most, found_after}
 use Rattle.coloring.proofs.Sources.{space_below, coloured_in}
@@ -42,6 +43,10 @@ module _ {s : Settings} {list table C0 E0 : List ℕ} {S0 : ReadSet} where
 
     wide : length (ends_of list) ≤ length C0
     wide = ends_fit list g.colours_room
+
+    set_room : length (color_to (setup s list table) (records list)).members * 2 ≤ length S0.words.now
+    unfolding members_of
+    set_room = g.words_room
 
   module _ {i : ℕ} {st : State} {set : ReadSet} {r : Renaming} (inv : Colouring s list table C0 E0 S0 i st set r) where
     pub colours_same : i ≤ records list → length st.colours ≡ length C0
@@ -134,7 +139,7 @@ module _ {s : Settings} {list table C0 E0 : List ℕ} {S0 : ReadSet} where
 
           pub read_room : length (joined (members_in set) (reads_of table rec found)) * 2 ≤ length set.words.now
           read_room =
-              rw (reads_are, holds_length inv.set_holds, add-one i) (omega (arith, few_members s list table (passes inv.called) (suc i) (omega arith), inv.called.words_room))
+              rw (reads_are, holds_length inv.set_holds, add-one i) (omega (arith, members_grow (setup s list table) (suc i) (records list) (omega arith), set_room inv.called))
 
           pub read_gives : {set' : ReadSet} → SetHolds set' (joined (members_in set) (reads_of table rec found)) set → SetHolds set' (color_to (setup s list table) (i + 1)).members S0
           read_gives h =

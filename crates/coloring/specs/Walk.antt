@@ -6,6 +6,7 @@ use Rattle.mir.specs.Records.{records, record_at}
 use Rattle.mir.specs.declared.rename.Renaming.{Renaming}
 use Rattle.mir.proofs.Renaming.{Walked}
 use Rattle.passes.specs.Color.{setup, color_to, fullest_at}
+use Rattle.passes.specs.Contract.{members_of}
 use Rattle.passes.specs.Create.{ends_of}
 use Rattle.passes.specs.Machine.{Passing}
 use Rattle.colours.specs.declared.allocs.Allocs.{Allocs}
@@ -36,7 +37,7 @@ pub record Called (s : Settings) (list table C0 E0 : List ℕ) (S0 : ReadSet) : 
   pub passing : Passing s list table
   pub colours_room : records list * 2 ≤ length C0
   pub ends_room : records list * 2 ≤ length E0
-  pub words_room : records list * 4 + length table ≤ length S0.words.now
+  pub words_room : length (members_of s list table) * 2 ≤ length S0.words.now
 
 -- between two records the masks tell of the colours at the one before
 pub record Colouring (s : Settings) (list table C0 E0 : List ℕ) (S0 : ReadSet) (i : ℕ) (st : State) (set : ReadSet) (r : Renaming) : Type 0 where

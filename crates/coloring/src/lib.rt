@@ -387,7 +387,7 @@ pub fn color(
     requires passing { Passing settings list.now table.now }
     requires colours_room { records list.now * 2 ≤ length colours.old }
     requires ends_room { records list.now * 2 ≤ length ends.old }
-    requires table_in_bounds { records list.now * 4 + length table.now ≤ length set.old.words.now }
+    requires set_room { length (members_of settings list.now table.now) * 2 ≤ length set.old.words.now }
     requires ends_value { ends.old ≡ over (ends_of list.now) ends.old }
     ensures statics { result.statics ≡ length (colours_of settings list.now table.now) }
     ensures fullest { result.fullest ≡ fullest_of settings list.now table.now }

@@ -2,8 +2,7 @@
 ghost use Rattle.std.specs.Prelude.{◌+◌, ◌*◌, ◌≤◌, true, Some, ◌≡◌, length};
 ghost use Rattle.mir.specs.Answers.{left, unless};
 ghost use Rattle.mir.specs.Answers as verdict;
-ghost use Rattle.mir.specs.Inner.{start_refusal, list_refusal};
-ghost use Rattle.mir.specs.Questions.{refusal};
+ghost use Rattle.mir.specs.Questions.{refusal, start_refusal, list_refusal};
 ghost use Rattle.passes.specs.Contract.{reduced, counts_of};
 ghost use Rattle.walks.specs.Lent.{report};
 ghost use Rattle.file.specs.File.{FileReduced, settings_in, file_counts, file_reduced, file_verdict, layout_of};

@@ -6,11 +6,12 @@ use Rattle.mir.specs.declared.refusal.Refusal.{Refusal}
 use Rattle.mir.specs.declared.rename.Renaming.{Renaming}
 use Rattle.mir.specs.Answers.{Passed, Refused, number_of, over}
 use Rattle.mir.specs.Inner.{with_part}
-use Rattle.mir.specs.Questions.{record_no, record_refusal}
+use Rattle.mir.specs.Folds.{first_refusal}
+use Rattle.mir.specs.Questions.{record_no, record_by, record_refusal}
 use Rattle.mir.specs.Records.{word_at}
 use Rattle.mir.specs.Renaming.{gens, renamed}
 use Rattle.mir.specs.Shapes.{branch_if, dests, sources}
-use Rattle.passes.specs.Create.{consumed, ends_of}
+use Rattle.passes.specs.Create.{consumed, ends_to}
 use Rattle.passes.specs.Machine.{Passing}
 
 -- the list passes, with some settings and table
@@ -30,12 +31,12 @@ abbrev pub Turned : List ℕ → ℕ → ℕ → List ℕ → ℕ → Renaming �
 Turned table count_regs past rec i r r' ends ends' given =
     MatchResult given (Ended table count_regs past rec i r r' ends ends') (λ q. number_of q ≡ record_no table count_regs r.regs past rec)
 
--- all records pass, and these are the ends of so many statics; or the first that does not is refused
-pub record Created (list table : List ℕ) (count_regs : ℕ) (ends ends' : List ℕ) (statics : ℕ) : Type 0 where
-  pub passes : Passed ≡ record_refusal table count_regs list
-  pub statics_are : statics ≡ length (ends_of list)
-  pub ends_are : ends' ≡ over (ends_of list) ends
+-- the first records pass, and these are the ends of so many statics; or the first that does not is refused
+pub record Created (list table : List ℕ) (count_regs until : ℕ) (ends ends' : List ℕ) (statics : ℕ) : Type 0 where
+  pub passes : Passed ≡ first_refusal (record_by table count_regs list) until
+  pub statics_are : statics ≡ length (ends_to list until)
+  pub ends_are : ends' ≡ over (ends_to list until) ends
 
-abbrev pub Creates : List ℕ → List ℕ → ℕ → List ℕ → List ℕ → Result ℕ Refusal → Type 0
-Creates list table count_regs ends ends' given =
-    MatchResult given (Created list table count_regs ends ends') (λ r. Refused (number_of r.question) r.index ≡ record_refusal table count_regs list)
+abbrev pub Creates : List ℕ → List ℕ → ℕ → ℕ → List ℕ → List ℕ → Result ℕ Refusal → Type 0
+Creates list table count_regs until ends ends' given =
+    MatchResult given (Created list table count_regs until ends ends') (λ r. Refused (number_of r.question) r.index ≡ record_refusal table count_regs list)

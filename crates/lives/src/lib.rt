@@ -3,11 +3,10 @@
 
 mod by_kind;
 
-ghost use Rattle.std.specs.Prelude.{◌+◌, ◌*◌, ◌<◌, ◌≤◌, ◌≡◌, true, length};
-ghost use Rattle.mir.specs.Answers.{left, over, verdict_in};
+ghost use Rattle.std.specs.Prelude.{◌+◌, ◌*◌, ◌<◌, ◌≤◌, ◌≡◌, true, length, IfErr};
+ghost use Rattle.mir.specs.Answers.{Refused, number_of, left, over, verdict_in};
 ghost use Rattle.lives.specs.Lives.{Turned, Creates};
-ghost use Rattle.mir.specs.Inner.{list_refusal};
-ghost use Rattle.mir.specs.Questions.{well_sized};
+ghost use Rattle.mir.specs.Questions.{well_sized, record_refusal, list_refusal};
 ghost use Rattle.mir.specs.Records.{max_regs, records, word_at};
 ghost use Rattle.mir.specs.Shapes.{any, sources};
 ghost use Rattle.passes.specs.Create.{consumed, ends_of};
@@ -91,22 +90,24 @@ fn create_by_kind(
     )
 }
 
-// Questions 5 to 9 and 15, record by record, and the ends of a list that passes them, from the start of the slice on. Gives how
-// many there are.
+// Questions 5 to 9 and 15, put to the first `until` records, and the ends of their statics if they pass, from the start of the slice on.
+// Gives how many there are.
 fn create_records(
     list: &[u32],
     table: &[u32],
     count_regs: u32,
+    until: usize,
     ends: &mut [u16],
 ) -> Result<usize, Refusal>
     requires few { count_regs ≤ max_regs }
     requires sized { well_sized (length list.now) (length table.now) ≡ true }
-    requires ends_room { records list.now * 2 ≤ length ends.old }
-    ensures { Creates list.now table.now count_regs ends.old ends.new result }
+    requires within { until ≤ records list.now }
+    requires ends_room { until * 2 ≤ length ends.old }
+    ensures { Creates list.now table.now count_regs until ends.old ends.new result }
 {
     let mut renaming = Renaming::new();
     let mut past = 0;
-    for (i, rec) in records_of(list).iter().enumerate() {
+    for (i, rec) in records_of(&list[..until * 8]).iter().enumerate() {
         // Not `map_err` and `?`: the proof does not reach what a closure gives there.
         match create_by_kind(rec, table, count_regs, past, i as u16, &mut renaming, ends) {
             Ok(after) => past = after,
@@ -144,9 +145,23 @@ fn create_in<const N: usize>(
     ensures ends { ends.new ≡ left (list_refusal count_regs list.now table.now) (ends_of list.now) ends.old }
 {
     let mut own = [0; N];
-    let statics = create_records(list, table, count_regs, &mut own)?;
+    let statics = create_records(list, table, count_regs, list.len() / 8, &mut own)?;
     check_branches(list)?;
     write_ends(&own[..statics], ends);
+    Ok(())
+}
+
+// The first records of a long list, one in sixteen and 768 at most, are asked before the list takes the space of its class, which would
+// be most of the time if one of them is refused. The answer says nothing of the other records.
+#[inline(never)]
+pub fn ask_first(list: &[u32], table: &[u32], count_regs: u32) -> Result<(), Refusal>
+    requires few { count_regs ≤ max_regs }
+    requires sized { well_sized (length list.now) (length table.now) ≡ true }
+    ensures { IfErr result (λ r. Refused (number_of r.question) r.index ≡ record_refusal table.now count_regs list.now) }
+{
+    let mut own = [0; 1_536];
+    let until = (list.len() / 128).min(768);
+    create_records(list, table, count_regs, until, &mut own)?;
     Ok(())
 }
 
@@ -161,8 +176,10 @@ pub fn create(list: &[u32], table: &[u32], count_regs: u32, ends: &mut [u32]) ->
 {
     let records = list.len() / 8;
     if records <= 768 {
-        create_in::<1_536>(list, table, count_regs, ends)
-    } else if records <= 5_120 {
+        return create_in::<1_536>(list, table, count_regs, ends);
+    }
+    ask_first(list, table, count_regs)?;
+    if records <= 5_120 {
         create_in::<10_240>(list, table, count_regs, ends)
     } else {
         create_in::<131_072>(list, table, count_regs, ends)

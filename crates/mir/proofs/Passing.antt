@@ -15,11 +15,11 @@ use Rattle.mir.specs.Branches.{past_to}
 use Rattle.std.specs.List.{list_all}
 use Rattle.mir.specs.Folds.{all_below, first_no, refused_at, or_else}
 use Rattle.mir.specs.Questions.{few_registers, few_args, well_sized, known_kind, word_fits, words_fit, fields_fit, gen_fits, gens_fit, partner_fits, named, since, sources_named, sources_since}
-use Rattle.mir.specs.Questions.{shape_no, record_no, record_by, record_refusal, count_refusal, args_refusal, lengths_refusal, lands, branch_by, branch_refusal, sizes_refusal, refusal}
+use Rattle.mir.specs.Questions.{shape_no, record_no, record_by, record_refusal, count_refusal, args_refusal, lengths_refusal, lands, branch_by, branch_refusal, sizes_refusal, start_refusal, list_refusal, refusal}
 use Rattle.mir.specs.Records.{is_gen, max_regs, records, record_at}
 use Rattle.mir.specs.Renaming.{regs_to}
 use Rattle.mir.specs.Shapes.{shape_for, dests, sources, registers}
-use Rattle.mir.specs.Inner.{source_passes, start_refusal, list_refusal}
+use Rattle.mir.specs.Inner.{source_passes}
 use Rattle.mir.proofs.Folds.{all_append, all_at, both_passed, none_refused, refusal_none}
 use Rattle.mir.proofs.Renaming.{registers_are, and_both}
 

@@ -2,10 +2,7 @@
 use Rattle.std.specs.Prelude.{ℕ, ◌<◌, Bool, ◌&&◌, List, [], ◌∷◌, ◌++◌, ◌≡◌, length, get_or, take, drop, Option, Some, None}
 use Rattle.mir.specs.declared.shape.Dests.{Dests}
 use Rattle.mir.specs.declared.shape.Dests.TheVariants.{Nothing, One, Two}
-use Rattle.mir.specs.declared.config.Settings.{Settings}
-use Rattle.mir.specs.Answers.{Verdict}
-use Rattle.mir.specs.Folds.{or_else}
-use Rattle.mir.specs.Questions.{gen_fits, named, since, count_refusal, args_refusal, lengths_refusal, record_refusal, branch_refusal}
+use Rattle.mir.specs.Questions.{gen_fits, named, since}
 use Rattle.mir.specs.Records.{max_regs}
 
 -- the destinations as the code hands them on
@@ -26,13 +23,6 @@ pub record KnownIn (regs : List (Option ℕ)) (m : ℕ) : Type 0 where
 -- questions 7, 9 and 15, of one source word
 abbrev pub source_passes : ℕ → List (Option ℕ) → ℕ → ℕ → Bool
 source_passes count_regs regs past w = gen_fits count_regs w && (named regs w && since past regs w)
-
--- the questions that come before any record, of the lengths of the list and of the table, and those that are put to the records
-abbrev pub start_refusal : Bool → Settings → ℕ → ℕ → Verdict
-start_refusal room s list table = or_else (count_refusal s.count_regs) (or_else (args_refusal s.args) (lengths_refusal room list table))
-
-abbrev pub list_refusal : ℕ → List ℕ → List ℕ → Verdict
-list_refusal count_regs list table = or_else (record_refusal table count_regs list) (branch_refusal list)
 
 -- a slice with a part in place of so many of its words, from a place on
 abbrev pub with_part : ℕ → ℕ → List ℕ → List ℕ → List ℕ

@@ -2,8 +2,7 @@
 use Rattle.std.specs.Prelude.{◌≡◌, ℕ, ◌*◌, ◌≤◌, Bool, List, length}
 use Rattle.mir.specs.declared.config.Settings.{Settings}
 use Rattle.mir.specs.Folds.{or_else}
-use Rattle.mir.specs.Inner.{start_refusal, list_refusal}
-use Rattle.mir.specs.Questions.{refusal}
+use Rattle.mir.specs.Questions.{refusal, start_refusal, list_refusal}
 use Rattle.mir.specs.Renaming.{statics_to}
 
 -- at most two statics a record

@@ -131,6 +131,13 @@ args_refusal args = refused_at (first_no ((2, few_args args) ∷ [])) 0
 abbrev pub lengths_refusal : Bool → ℕ → ℕ → Verdict
 lengths_refusal room list table = refused_at (first_no ((3, well_sized list table) ∷ (4, room) ∷ [])) 0
 
+-- all that come before any record, of the lengths of the list and of the table; and those that are put to the records
+abbrev pub start_refusal : Bool → Settings → ℕ → ℕ → Verdict
+start_refusal room s list table = or_else (count_refusal s.count_regs) (or_else (args_refusal s.args) (lengths_refusal room list table))
+
+abbrev pub list_refusal : ℕ → List ℕ → List ℕ → Verdict
+list_refusal count_regs list table = or_else (record_refusal table count_regs list) (branch_refusal list)
+
 -- the questions that come before any record, then record by record, and then question 16; `room` is the answer to
 -- question 4, which belongs to the operation that lends the buffers
 unfoldable pub refusal : Bool → Settings → List ℕ → List ℕ → Verdict

@@ -59,7 +59,7 @@ fn produce_all(regs: &mut [Option<u32>; MAX_REGS], kind: u32, rec: &Record, next
 
 // The registers after a record. Gives the number of the next static.
 #[inline(always)]
-fn rename(regs: &mut [Option<u32>; MAX_REGS], kind: u32, rec: &Record, next: u32) -> u32
+pub fn rename(regs: &mut [Option<u32>; MAX_REGS], kind: u32, rec: &Record, next: u32) -> u32
     requires kind_is { kind ≡ get_or rec.now 0 0 }
     requires next_fits { next + 1 < any }
     ensures regs { regs.new ≡ renamed rec.now next regs.old }

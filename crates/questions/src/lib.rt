@@ -6,8 +6,7 @@ pub mod branches;
 
 ghost use Rattle.std.specs.Prelude.{◌≡◌};
 ghost use Rattle.mir.specs.Answers.{verdict_in};
-ghost use Rattle.mir.specs.Inner.{start_refusal};
-ghost use Rattle.mir.specs.Questions.{args_refusal};
+ghost use Rattle.mir.specs.Questions.{args_refusal, start_refusal};
 
 use mir::config::Settings;
 use mir::questions::{check_count, check_lengths};

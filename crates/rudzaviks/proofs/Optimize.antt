@@ -19,7 +19,7 @@ use Rattle.mir.specs.Answers.{Verdict}
 use Rattle.mir.specs.Answers.{Passed, Refused}
 use Rattle.mir.specs.Answers.{unless}
 use Rattle.mir.proofs.Clash.{clash}
-use Rattle.mir.specs.Inner.{start_refusal}
+use Rattle.mir.specs.Questions.{start_refusal}
 use Rattle.mir.proofs.Passing.{room_passes, refusal_without}
 use Rattle.rudzaviks.proofs.Written.{written, left_by}
 use Rattle.rudzaviks.specs.Exports.{RudzaviksOptimize, verdict_with, report_word, records_word}

@@ -1,7 +1,7 @@
 -- Locations as pairs of words: reading them back, one more of them, whether one is among them.
 -- By induction on the number of pairs; a list without its first two words has the pairs from the second on.
 use Prim.Native.Nat.{ℕ, zero, suc, ◌+◌, ◌*◌, ◌-◌, ◌<◌, ◌≤◌}
-use mathlib.Core.Bool.{Bool, true, false, cond, or-true}
+use mathlib.Core.Bool.{true, false, or-true}
 use mathlib.Core.List.{List, [], ◌∷◌, ◌++◌}
 use mathlib.Core.Path.{◌≡◌, refl, sym, ap, ◌∙◌}
 use native.Mathlib.Nat.{add-zero, zero-add, add-suc, suc-add}
@@ -11,7 +11,7 @@ use lib.ListN.{length, get_or, set, drop, length-append, length-set}
 use Rattle.passes.specs.declared.symbol.Loc.{Loc}
 use Rattle.passes.specs.Color.{same_loc, pairs_from, is_member, join, joined}
 use Rattle.theorems.proofs.Members.{pairs_length}
-use Rattle.theorems.proofs.ReadSet.{member_append, member_snoc}
+use Rattle.theorems.proofs.ReadSet.{member_append, member_snoc, join_grows}
 use Rattle.sets.specs.Sets.{pair_at}
 use Rattle.sets.specs.declared.ReadSet.{ReadSet}
 use Rattle.sets.specs.Members.{members_in, SetHolds}
@@ -123,18 +123,6 @@ pub room_for : (t : List ℕ) (n : ℕ) (l : Loc) → is_member l (pairs_from t 
 room_for t n l e h =
     let r = rw e at h in
     omega (arith, r, length-append (pairs_from t 0 n) (l ∷ []), pairs_length t 0 n)
-
-pub join_grows : (ms : List Loc) (l : Loc) → length ms ≤ length (join ms l)
-join_grows ms l = go (is_member l ms)
-  where
-    go : (b : Bool) → length ms ≤ length (cond b ms (ms ++ l ∷ []))
-    go true = omega arith
-    go false = omega (arith, length-append ms (l ∷ []))
-
-pub joined_grows : (ms ls : List Loc) → length ms ≤ length (joined ms ls)
-unfolding joined
-joined_grows ms [] = omega arith
-joined_grows ms (l ∷ ls) = omega (arith, join_grows ms l, joined_grows (join ms l) ls)
 
 -- more pairs of a table leave at least as many members
 pub joined_mono : (ms : List Loc) (t : List ℕ) (f k j : ℕ) → length (joined ms (pairs_from t f j)) ≤ length (joined ms (pairs_from t f (k + j)))

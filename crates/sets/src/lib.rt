@@ -2,7 +2,7 @@
 // and without repeats.
 #![tactic(auto)]
 
-ghost use Rattle.std.specs.Prelude.{ℕ, ◌+◌, ◌*◌, ◌/◌, ◌%◌, ◌<◌, ◌≤◌, [], true, ◌≡◌, length, set, MatchOption};
+ghost use Rattle.std.specs.Prelude.{ℕ, ◌+◌, ◌*◌, ◌/◌, ◌%◌, ◌<◌, ◌≤◌, [], true, ◌≡◌, length, set, MatchResult};
 ghost use Rattle.sets.specs.Sets.{pair_at, bucket, key, link, Roomy, Indexed, Ends};
 ghost use Rattle.passes.specs.Color.{pairs_from, is_member, join, joined};
 
@@ -58,6 +58,14 @@ fn put(low: &mut [u16], high: &mut [u8], place: usize, v: usize)
     high[place] = (v / 65_536) as u8;
 }
 
+// Where the next pair that a LoadArgs names may be a member: after the one before it, if that one was so too. Pairs that are named again
+// mostly stand as they joined.
+#[derive(Clone, Copy)]
+struct Guess {
+    member: usize,
+    is_run: bool,
+}
+
 /// The members lie in `words`, which are lent, two words each. `low` and `high` are their index, lent too: links, first the heads
 /// and then two for each member. Below a head the members are a tree, which is searched by the bits of a location's key: members on
 /// one path agree in one bit more at each step, so it passes 35 of them at most, as a key of the three spaces has 34 bits.
@@ -106,19 +114,19 @@ impl<'a> ReadSet<'a> {
         self.len
     }
 
-    // The place with no link where the walk for a location ends, unless it comes to the location.
-    fn find(&self, l: Loc) -> Option<usize>
-        ensures { MatchOption result (is_member l (members_in self.now) ≡ true) (λ place. Ends self.now.words.now self.now.len self.now.heads (link self.now.low.now self.now.high.now) l place) }
+    // The place with no link where the walk for a location ends, unless it comes to the location: then, by its number, the member.
+    fn find(&self, l: Loc) -> Result<usize, usize>
+        ensures { MatchResult result (λ place. Ends self.now.words.now self.now.len self.now.heads (link self.now.low.now self.now.high.now) l place) (λ member. is_member l (members_in self.now) ≡ true) }
     {
         let mut place = bucket(l, self.heads);
         let mut bits = key(l);
         loop {
             let v = link(self.low, self.high, place);
             if v == 0 {
-                return Some(place);
+                return Ok(place);
             }
             if loc_at(self.words, v - 1) == l {
-                return None;
+                return Err(v - 1);
             }
             place = self.heads + ((v - 1) * 2 + (bits % 2) as usize);
             bits /= 2;
@@ -128,23 +136,64 @@ impl<'a> ReadSet<'a> {
     pub fn contains(&self, l: Loc) -> bool
         ensures { result ≡ is_member l (members_in self.now) }
     {
-        self.find(l).is_none()
+        self.find(l).is_err()
+    }
+
+    // The location joins, unless it is a member already. Gives the number of the member after it, if there is one.
+    #[tactic(auto, using(crate::proofs::Pairs::insert_rules))]
+    #[inline(always)]
+    fn join_after(&mut self, l: Loc) -> usize
+        requires { length (join (members_in self.old) l) * 2 ≤ length self.old.words.now }
+        ensures { SetHolds self.new (join (members_in self.old) l) self.old }
+    {
+        match self.find(l) {
+            Ok(place) => {
+                let at = self.len * 2;
+                self.words[at] = l.space;
+                self.words[at + 1] = l.index;
+                put(self.low, self.high, place, self.len + 1);
+                self.len += 1;
+                self.len
+            }
+            Err(member) => member.saturating_add(1),
+        }
     }
 
     /// The location joins, unless it is a member already.
-    #[tactic(auto, using(crate::proofs::Pairs::insert_rules))]
     pub fn insert(&mut self, l: Loc)
         requires { length (join (members_in self.old) l) * 2 ≤ length self.old.words.now }
         ensures { SetHolds self.new (join (members_in self.old) l) self.old }
     {
-        let Some(place) = self.find(l) else {
-            return;
-        };
-        let at = self.len * 2;
-        self.words[at] = l.space;
-        self.words[at + 1] = l.index;
-        put(self.low, self.high, place, self.len + 1);
-        self.len += 1;
+        self.join_after(l);
+    }
+
+    // Whether the member of this number is the location.
+    #[inline(always)]
+    fn is_at(&self, member: usize, l: Loc) -> bool
+        ensures { result ≡ true → is_member l (members_in self.now) ≡ true }
+    {
+        member < self.len && loc_at(self.words, member) == l
+    }
+
+    // The location joins, looked for first where the members before it have been. Gives where the one after it may be.
+    #[tactic(auto, using(crate::proofs::Pairs::insert_rules))]
+    #[inline(always)]
+    fn join_at(&mut self, guess: Guess, l: Loc) -> Guess
+        requires { length (join (members_in self.old) l) * 2 ≤ length self.old.words.now }
+        ensures { SetHolds self.new (join (members_in self.old) l) self.old }
+    {
+        let after = guess.member.saturating_add(1);
+        if guess.is_run && self.is_at(guess.member, l) {
+            return Guess {
+                member: after,
+                is_run: true,
+            };
+        }
+        let member = self.join_after(l);
+        Guess {
+            member,
+            is_run: member == after && member < self.len,
+        }
     }
 
     /// Each of `count` pairs of the table joins, from the pair `first` on.
@@ -155,8 +204,12 @@ impl<'a> ReadSet<'a> {
         ensures { SetHolds self.new (joined (members_in self.old) (pairs_from table.now first count)) self.old }
     {
         let from = first as usize;
+        let mut guess = Guess {
+            member: self.len,
+            is_run: false,
+        };
         for j in 0..count as usize {
-            self.insert(loc_at(table, from + j));
+            guess = self.join_at(guess, loc_at(table, from + j));
         }
     }
 }

@@ -4,7 +4,7 @@
 use Prim.Native.Nat.{ℕ, zero, suc, ◌+◌, ◌*◌, ◌/◌, ◌≤◌, ◌<◌}
 use mathlib.Core.Bool.{Bool, true, false, cond, ◌&&◌}
 use mathlib.Core.List.{List, [], ◌∷◌, ◌++◌}
-use mathlib.Core.Logic.{inl, inr, ⊎_elim}
+use mathlib.Core.Logic.{◌⊎◌, inl, inr, ⊎_elim}
 use mathlib.Core.Path.{◌≡◌, refl, ap}
 use native.Mathlib.Omega.{arith}
 use lib.Dec.{leb}
@@ -25,7 +25,8 @@ use Rattle.passes.specs.declared.symbol.Loc.{Loc}
 use Rattle.passes.specs.Color.{Setup, setup, loc, pairs_from, reads, is_member, join, joined, color_to}
 use Rattle.theorems.proofs.Actions.{same_action}
 use Rattle.theorems.specs.Laws.{Once}
-use Rattle.theorems.proofs.ReadSet.{InLocs, reads_at, members_next, member_append, member_last, joined_keeps, joined_once, joined_more}
+use Rattle.theorems.proofs.ReadSet.{InLocs, reads_at, members_next, member_append, member_last, joined_keeps, joined_once, joined_more, joined_grows}
+use Rattle.theorems.specs.Named.{named_pairs, named_to}
 
 -- how many places of the table hold a member
 hits : List Loc → List Loc → ℕ
@@ -180,6 +181,32 @@ pub few_members : (s : Settings) (list table : List ℕ) → ListPasses s list t
     → length (color_to (setup s list table) i).members ≤ i * 2 + length table / 2
 few_members s list table passes i h =
     omega (arith, members_bound s list table passes i h, hits_most (all_pairs table) (color_to (setup s list table) i).members, pairs_length table 0 (length table / 2))
+
+-- and at most the pairs that the LoadArgs records name, in place of those of the table
+pub members_named : (u : Setup) (i : ℕ) → length (color_to u i).members ≤ i * 2 + named_to u.list i
+unfolding color_to named_to reads_at
+members_named u zero = omega arith
+members_named u (suc i) =
+    rw (members_next u i)
+    (omega (arith, members_named u i, joined_more (color_to u i).members (reads_at u i), few (same_action (shape_for rec).action action.LoadArgs)))
+  where
+    rec : List ℕ
+    rec = record_at u.list i
+
+    few : ((shape_for rec).action ≡ action.LoadArgs) ⊎ ((shape_for rec).action ≡ action.LoadArgs → ⊥) → length (reads_at u i) ≤ 2 + named_pairs rec
+    few (inl e) = rw (e, args_kind (word_at rec 0) e) (omega (arith, pairs_length u.table (word_at rec 1) (word_at rec 2)))
+    few (inr h) =
+        let least : length (reads_at u i) ≤ 2 = few_reads (shape_for rec).action h _ _ _ _ in
+        omega (arith, least)
+
+-- members stay
+pub members_grow : (u : Setup) (i n : ℕ) → i ≤ n → length (color_to u i).members ≤ length (color_to u n).members
+members_grow u i zero h =
+    let e : i ≡ 0 = omega arith in
+    rw e (omega arith)
+members_grow u i (suc n) h = ⊎_elim
+    (λ (e : i ≡ suc n). rw e (omega arith))
+    (λ (e : i ≡ suc n → ⊥). rw (members_next u n) (omega (arith, members_grow u i n (omega (arith, e)), joined_grows (color_to u n).members (reads_at u n)))) (same_or i (suc n))
 
 -- no member stands twice
 pub members_once : (u : Setup) (i : ℕ) → Once (color_to u i).members

@@ -133,6 +133,18 @@ unfolding joined
 joined_more ms [] = omega arith
 joined_more ms (l ∷ ls) = omega (arith, joined_more (join ms l) ls, join_more ms l)
 
+pub join_grows : (ms : List Loc) (l : Loc) → length ms ≤ length (join ms l)
+join_grows ms l = go (is_member l ms)
+  where
+    go : (b : Bool) → length ms ≤ length (cond b ms (ms ++ l ∷ []))
+    go true = omega arith
+    go false = omega (arith, length-append ms (l ∷ []))
+
+pub joined_grows : (ms ls : List Loc) → length ms ≤ length (joined ms ls)
+unfolding joined
+joined_grows ms [] = omega arith
+joined_grows ms (l ∷ ls) = omega (arith, join_grows ms l, joined_grows (join ms l) ls)
+
 -- ---- record by record
 
 module _ (n i : ℕ) (E : List ℕ) where

@@ -1,6 +1,6 @@
 -- The walks one after the other: what each leaves is what the next asks for, and the whole is the definitions'.
 -- By the laws of a slice that starts with words; a later walk writes over what an earlier one left.
-use Prim.Native.Nat.{ℕ, ◌*◌, ◌≤◌}
+use Prim.Native.Nat.{ℕ, ◌+◌, ◌*◌, ◌/◌, ◌≤◌}
 use mathlib.Core.Bool.{true}
 use mathlib.Core.List.{List, [], ◌∷◌, ◌++◌, append_assoc}
 use mathlib.Core.Path.{◌≡◌, refl, sym, ap, ◌∙◌}
@@ -16,12 +16,13 @@ use Rattle.passes.specs.Color.{setup}
 use Rattle.passes.specs.declared.symbol.Loc.{Loc}
 use Rattle.passes.specs.Create.{ends_of}
 use Rattle.passes.specs.Machine.{Passing}
-use Rattle.theorems.proofs.Members.{few_members}
+use Rattle.theorems.specs.Named.{named_to}
+use Rattle.theorems.proofs.Members.{few_members, members_named}
 use Rattle.theorems.proofs.NeverEmpty.{ready_to}
 use Rattle.walks.specs.declared.contract.Tally.{Tally}
 use Rattle.passes.specs.Contract.{colours_of, members_of, counts_of, fullest_of}
 use Rattle.mir.specs.Answers.{Passed, over}
-use Rattle.mir.specs.Inner.{start_refusal, list_refusal}
+use Rattle.mir.specs.Questions.{start_refusal, list_refusal}
 use Rattle.coloring.specs.Coloring.{marked_ends, founds_to}
 use Rattle.walks.specs.Walks.{Colored, Contracted}
 use Rattle.coloring.proofs.Dests.{marked_length}
@@ -64,6 +65,15 @@ module _ (s : Settings) (list table : List ℕ) (h : Passing s list table) where
   pub few_in_set : length (members_of s list table) ≤ any
   unfolding members_of
   few_in_set = omega (arith, few_members s list table passes (records list) (omega arith), passes.sized.small, passes.sized.few)
+
+  -- the members, by the table and by the pairs that the list names
+  pub members_most : length (members_of s list table) * 2 ≤ length list / 8 * 4 + length table
+  unfolding members_of
+  members_most = omega (arith, few_members s list table passes (records list) (omega arith))
+
+  pub members_by_name : length (members_of s list table) * 2 ≤ length list / 8 * 4 + named_to list (records list) * 2
+  unfolding members_of
+  members_by_name = omega (arith, members_named (setup s list table) (records list))
 
   -- what the second walk leaves
   pub colored : (C0 E0 : List ℕ) {C E : List ℕ} {members : List Loc} → records list * 2 ≤ length C → records list * 2 ≤ length E

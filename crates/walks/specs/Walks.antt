@@ -26,6 +26,13 @@ pub record Roomy (list table out colours ends set : ℕ) : Type 0 where
   pub for_ends : list / 8 * 2 ≤ ends
   pub for_set : list / 8 * 4 + table ≤ set
 
+-- and each is long enough for the walks over a list that passes: the set for the list's members
+pub record Fits (s : Settings) (list table : List ℕ) (out colours ends set : ℕ) : Type 0 where
+  pub for_out : length list ≤ out
+  pub for_colours : length list / 8 * 2 ≤ colours
+  pub for_ends : length list / 8 * 2 ≤ ends
+  pub for_set : length (members_of s list table) * 2 ≤ set
+
 -- ---- the last walk
 
 -- destinations in colours, from static n on

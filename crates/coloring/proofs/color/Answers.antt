@@ -32,7 +32,7 @@ loop-i-init c =
               passing = c.requires.passing;
               colours_room = c.requires.colours_room;
               ends_room = c.requires.ends_room;
-              words_room = c.requires.table_in_bounds;
+              words_room = c.requires.set_room;
             };
         walked = walked_first c.args.list.now c.new-renaming.ensures.regs c.new-renaming.ensures.statics;
         holds = record { allocs = c.new-allocs.ensures 0; colours = refl; ends = c.requires.ends_value };

@@ -1,6 +1,7 @@
 -- `coloring::insert_both` meets its contract: the location joins before its partner. The rest is found.
 use Rattle.passes.specs.Color.{joined}
-use Rattle.sets.proofs.Pairs.{holds_more, join_grows}
+use Rattle.theorems.proofs.ReadSet.{join_grows}
+use Rattle.sets.proofs.Pairs.{holds_more}
 use Rattle.coloring.proofs.insert_both.Goals as goal
 
 pub returns : goal.returns

@@ -4,7 +4,6 @@ use mathlib.Core.Path.{◌≡◌}
 use Rattle.mir.specs.Answers.{over}
 use Rattle.mir.specs.Branches.{past_to}
 use Rattle.mir.specs.Questions.{record_by}
-use Rattle.mir.specs.Records.{records}
 use Rattle.mir.proofs.Folds.{Unrefused}
 use Rattle.mir.proofs.Renaming.{Walked}
 use Rattle.passes.specs.Create.{ends_to}
@@ -12,7 +11,7 @@ use Rattle.lives.proofs.create_records.Given as goal
 
 abbrev pub invariant-loop-i : goal.invariant-loop-i
 invariant-loop-i l =
-    Unrefused (record_by l.table l.count_regs l.list) (records l.list) l.i
+    Unrefused (record_by l.table l.count_regs l.list) l.until l.i
     × Walked l.list l.i l.renaming
     × (l.past ≡ past_to l.list l.i)
     × (l.ends ≡ over (ends_to l.list l.i) l.initial.ends)

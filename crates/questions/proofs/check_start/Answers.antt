@@ -1,8 +1,6 @@
 -- `questions::check_start` meets its contract: each question is put once those before it have passed.
 -- By what a `?` knows of an answer.
 use mathlib.Core.Path.{◌∙◌}
-use Rattle.mir.specs.Folds.{or_else}
-use Rattle.mir.specs.Questions.{lengths_refusal}
 use Rattle.mir.proofs.Asked.{asked_stops, asked_passes}
 use Rattle.questions.proofs.check_start.Goals as goal
 

@@ -14,6 +14,17 @@ create-requires-clause-few c = (start_passes true c.args.settings _ _ c.requires
 pub reduce_sized-requires-clause-passing : goal.reduce_sized-requires-clause-passing
 reduce_sized-requires-clause-passing c = passing_after _ _ _ c.requires.started (sym c.in_ok-create.ensures.answer)
 
+pub reduce_sized-requires-clause-fits : goal.reduce_sized-requires-clause-fits
+reduce_sized-requires-clause-fits c =
+    let passing = passing_after _ _ _ c.requires.started (sym c.in_ok-create.ensures.answer) in
+    let r = c.requires.roomy in
+    record {
+      for_out = r.for_out;
+      for_colours = r.for_colours;
+      for_ends = omega (arith, r.for_ends, c.create.auto.ends);
+      for_set = omega (arith, r.for_set, c.set_words-words.ensures.most, c.set_words-words.ensures.members c.args.settings passing, length-take {A = ℕ});
+    }
+
 pub reduce_sized-requires-clause-few : goal.reduce_sized-requires-clause-few
 reduce_sized-requires-clause-few c =
     omega (arith, well_sized_lem _ _ (start_passes true c.args.settings _ _ c.requires.started).sized, length-take {A = ℕ})

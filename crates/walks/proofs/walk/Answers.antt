@@ -9,15 +9,15 @@ color-filled-requires c =
     record {
       empty = c.requires.empty;
       passing = c.requires.passing;
-      colours_room = c.requires.roomy.for_colours;
-      ends_room = c.requires.roomy.for_ends;
-      table_in_bounds = c.requires.roomy.for_set;
+      colours_room = c.requires.fits.for_colours;
+      ends_room = c.requires.fits.for_ends;
+      set_room = c.requires.fits.for_set;
       ends_value = c.requires.created;
     }
 
 pub contract-tally-requires : goal.contract-tally-requires
 contract-tally-requires c =
-    let r = c.requires.roomy in
+    let r = c.requires.fits in
     let left = c.color-filled.ensures in
     record {
       colored = (
@@ -39,7 +39,7 @@ returns c =
     let s = c.args.settings in
     let list = c.args.list.now in
     let table = c.args.table.now in
-    let r = c.requires.roomy in
+    let r = c.requires.fits in
     let left = c.color-filled.ensures in
     let q = c.contract-tally.ensures table (colored s list table c.requires.passing c.args.colours.now c.args.ends.now
     (omega (arith, r.for_colours, c.color-filled.auto.colours)) (omega (arith, r.for_ends, c.color-filled.auto.ends)) left.colours left.ends left.set.members) in

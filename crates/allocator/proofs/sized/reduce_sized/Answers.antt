@@ -10,3 +10,6 @@ reduce_in-requires-clause-space c = omega arith
 pub reduce_in-requires-else-records-le5120-clause-space : goal.reduce_in-requires-else-records-le5120-clause-space
 reduce_in-requires-else-records-le5120-clause-space c =
     omega (arith, well_sized_lem _ _ (start_passes true c.args.settings _ _ c.requires.started).sized)
+
+pub ask_first-requires-clause-few : goal.ask_first-requires-clause-few
+ask_first-requires-clause-few c = (start_passes true c.args.settings _ _ c.requires.started).few
