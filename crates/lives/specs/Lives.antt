@@ -1,5 +1,5 @@
 -- Inner: what a walk needs to know of the list, and what a turn of the first walk and that walk tell.
-use Rattle.std.specs.Prelude.{ℕ, ◌+◌, cond, List, ◌≡◌, eqb, length, replicate, Result, MatchResult}
+use Rattle.std.specs.Prelude.{ℕ, ◌+◌, ◌/◌, cond, List, ◌≡◌, eqb, min, length, replicate, Result, MatchResult}
 use Rattle.mir.specs.declared.config.Settings.{Settings}
 use Rattle.mir.specs.declared.refusal.Question.{Question}
 use Rattle.mir.specs.declared.refusal.Refusal.{Refusal}
@@ -7,7 +7,7 @@ use Rattle.mir.specs.declared.rename.Renaming.{Renaming}
 use Rattle.mir.specs.Answers.{Passed, Refused, number_of, over}
 use Rattle.mir.specs.Inner.{with_part}
 use Rattle.mir.specs.Folds.{first_refusal}
-use Rattle.mir.specs.Questions.{record_no, record_by, record_refusal}
+use Rattle.mir.specs.Questions.{record_no, record_by}
 use Rattle.mir.specs.Records.{word_at}
 use Rattle.mir.specs.Renaming.{gens, renamed}
 use Rattle.mir.specs.Shapes.{branch_if, dests, sources}
@@ -39,4 +39,8 @@ pub record Created (list table : List ℕ) (count_regs until : ℕ) (ends ends' 
 
 abbrev pub Creates : List ℕ → List ℕ → ℕ → ℕ → List ℕ → List ℕ → Result ℕ Refusal → Type 0
 Creates list table count_regs until ends ends' given =
-    MatchResult given (Created list table count_regs until ends ends') (λ r. Refused (number_of r.question) r.index ≡ record_refusal table count_regs list)
+    MatchResult given (Created list table count_regs until ends ends') (λ r. Refused (number_of r.question) r.index ≡ first_refusal (record_by table count_regs list) until)
+
+-- how many records of a long list are asked before it takes space: one in sixteen, 768 at most
+abbrev pub first_records : List ℕ → ℕ
+first_records list = min (length list / 128) 768

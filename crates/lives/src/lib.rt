@@ -5,8 +5,9 @@ mod by_kind;
 
 ghost use Rattle.std.specs.Prelude.{◌+◌, ◌*◌, ◌<◌, ◌≤◌, ◌≡◌, true, length, IfErr};
 ghost use Rattle.mir.specs.Answers.{Refused, number_of, left, over, verdict_in};
-ghost use Rattle.lives.specs.Lives.{Turned, Creates};
-ghost use Rattle.mir.specs.Questions.{well_sized, record_refusal, list_refusal};
+ghost use Rattle.lives.specs.Lives.{Turned, Creates, first_records};
+ghost use Rattle.mir.specs.Folds.{first_refusal};
+ghost use Rattle.mir.specs.Questions.{well_sized, record_by, record_refusal, list_refusal};
 ghost use Rattle.mir.specs.Records.{max_regs, records, word_at};
 ghost use Rattle.mir.specs.Shapes.{any, sources};
 ghost use Rattle.passes.specs.Create.{consumed, ends_of};
@@ -151,13 +152,14 @@ fn create_in<const N: usize>(
     Ok(())
 }
 
-// The first records of a long list, one in sixteen and 768 at most, are asked before the list takes the space of its class, which would
-// be most of the time if one of them is refused. The answer says nothing of the other records.
+// Questions 5 to 9 and 15, put to the first records of a long list before it takes the space of its class, which would be most of the
+// time if one of them is refused. A refusal is the list's; where they pass, nothing is said of the other records.
 #[inline(never)]
 pub fn ask_first(list: &[u32], table: &[u32], count_regs: u32) -> Result<(), Refusal>
     requires few { count_regs ≤ max_regs }
     requires sized { well_sized (length list.now) (length table.now) ≡ true }
-    ensures { IfErr result (λ r. Refused (number_of r.question) r.index ≡ record_refusal table.now count_regs list.now) }
+    ensures answer { verdict_in result ≡ first_refusal (record_by table.now count_regs list.now) (first_records list.now) }
+    ensures refused { IfErr result (λ r. Refused (number_of r.question) r.index ≡ record_refusal table.now count_regs list.now) }
 {
     let mut own = [0; 1_536];
     let until = (list.len() / 128).min(768);

@@ -2,10 +2,10 @@
 -- There are at most two ends for a record, which have room in the slice.
 use Prim.Native.Nat.{ℕ}
 use mathlib.Core.List.{List}
-use mathlib.Core.Path.{◌≡◌, ap, ◌∙◌}
+use mathlib.Core.Path.{◌≡◌, refl, sym, ap, ◌∙◌}
 use native.Mathlib.Omega.{arith}
 use lib.ListN.{take, length-take}
-use Rattle.mir.specs.Answers.{Verdict, Passed, over, left}
+use Rattle.mir.specs.Answers.{Verdict, Passed, Refused, over, left}
 use Rattle.mir.specs.Folds.{or_else, first_refusal}
 use Rattle.mir.specs.Questions.{record_by, record_refusal, branch_refusal, list_refusal}
 use Rattle.mir.specs.Records.{records}
@@ -24,6 +24,21 @@ unfolding ends_of
 write_ends-requires g c =
     let made = rw c.in_ok-statics.was at c.create_records.ensures in
     omega (arith, made.statics_are, ends_fit c.args.list.now c.requires.ends_room, length-take {A = ℕ})
+
+-- a record is refused, and question 16 is not put
+stops : (list table : List ℕ) (count_regs : ℕ) {v : Verdict} {number index : ℕ} → v ≡ Refused number index → v ≡ first_refusal (record_by table count_regs list) (records list)
+    → v ≡ list_refusal count_regs list table
+unfolding record_refusal
+stops list table count_regs r e = r ∙ ap (λ u. or_else u (branch_refusal list)) (sym r ∙ e)
+
+pub returns-in_err-statics-clause-answer : goal.returns-in_err-statics-clause-answer
+returns-in_err-statics-clause-answer g c =
+    rw (passed_on c.from_residual.result c.from_residual.ensures.1)
+    (stops c.args.list.now c.args.table.now c.args.count_regs refl c.in_err-statics.ensures)
+
+pub returns-in_err-statics-clause-ends : goal.returns-in_err-statics-clause-ends
+returns-in_err-statics-clause-ends g c =
+    ap (λ v. left v (ends_of c.args.list.now) c.args.ends.now) (stops c.args.list.now c.args.table.now c.args.count_regs refl c.in_err-statics.ensures)
 
 -- all records pass, and then question 16 decides
 asked : (list table : List ℕ) (count_regs : ℕ) {v : Verdict} → Passed ≡ first_refusal (record_by table count_regs list) (records list) → v ≡ branch_refusal list

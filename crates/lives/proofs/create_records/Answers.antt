@@ -10,7 +10,7 @@ use lib.Dec.{eqb}
 use lib.ListN.{take, length-take}
 use Rattle.mir.specs.Answers.{number_of}
 use Rattle.mir.specs.Branches.{past_to}
-use Rattle.mir.specs.Questions.{record_by, record_refusal}
+use Rattle.mir.specs.Questions.{record_by}
 use Rattle.mir.specs.Records.{records, record_at, word_at}
 use Rattle.mir.specs.Shapes.{branch_if}
 use Rattle.mir.proofs.Asked.{numbered}
@@ -58,7 +58,6 @@ create_by_kind-requires c =
     }
 
 pub returns-in-Err : goal.returns-in-Err
-unfolding record_refusal
 returns-in-Err c =
     let part = c.records_of-rec-items.ensures.each c.loop-i.i c.loop-i-test.true in
     let here = turn c.args.list.now c.args.until c.loop-i.i c.requires.within part in
@@ -66,7 +65,7 @@ returns-in-Err c =
     let no = rw c.in-Err.is at c.create_by_kind.ensures in
     let by_is : number_of c.in-Err.question ≡ record_by c.args.table.now c.args.count_regs c.args.list.now c.loop-i.i =
     rw (← here.1, ← inv.1.regs_are, ← inv.2) no in
-    rw c.of_record.ensures (unrefused_stops (record { within = omega (arith, here.0); passed = inv.0.passed }) here.0 by_is (numbered c.in-Err.question))
+    rw c.of_record.ensures (unrefused_stops inv.0 here.2 by_is (numbered c.in-Err.question))
 
 next_past : {r q : List ℕ} {a b k l : ℕ} → r ≡ q → a ≡ k → b ≡ l → cond (eqb (word_at r 0) branch_if) a b ≡ cond (eqb (word_at q 0) branch_if) k l
 next_past h e f = rw (h, e, f)
