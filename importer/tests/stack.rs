@@ -188,7 +188,7 @@ fn a_reduced_list_takes_what_its_class_does() {
     for ((most, lists), below) in REDUCED.into_iter().zip(BELOW) {
         for (records, pairs) in lists {
             let what = format!("{records} records, {pairs} pairs");
-            let mut reduce = |least, list: List| {
+            let reduce = |least, list: List| {
                 let word = optimize(&what, least, most, &list);
                 assert!(word <= *records as u64, "{word:#x}");
             };
